@@ -23,14 +23,21 @@ joined x (z ∷ xs) y ys =
 after_expr : (e : Expr) (y : List ℕ) (ys : List (List ℕ)) → join_with_byte 32 (spell e ++ (y ∷ ys)) ≡ comment_of e ++ (32 ∷ join_with_byte 32 (y ∷ ys))
 after_expr e y ys = let first = first_token e in rw first.1.1 (joined first.0 first.1.0 y ys)
 
+after_paren : (e : Expr) → join_with_byte 32 ((40 ∷ []) ∷ (spell e ++ (41 ∷ []) ∷ [])) ≡ 40 ∷ 32 ∷ (comment_of e ++ (32 ∷ 41 ∷ []))
+after_paren e =
+    let first = first_token e in
+    let opened : join_with_byte 32 ((40 ∷ []) ∷ (spell e ++ (41 ∷ []) ∷ [])) ≡ 40 ∷ 32 ∷ join_with_byte 32 (spell e ++ (41 ∷ []) ∷ []) = rw first.1.1 refl in
+    opened ∙ ap (λ (bytes : List ℕ). 40 ∷ 32 ∷ bytes) (after_expr e (41 ∷ []) [])
+
 before_expr : (e : Expr) (y : List ℕ) → join_with_byte 32 (y ∷ spell e) ≡ y ++ (32 ∷ comment_of e)
 before_expr e y = let first = first_token e in rw first.1.1 refl
 
-pub paren : (e : Expr) → 40 ∷ 32 ∷ (comment_of e ++ (32 ∷ 41 ∷ [])) ≡ join_with_byte 32 ((40 ∷ []) ∷ (spell e ++ (41 ∷ []) ∷ []))
-paren e =
-    let first = first_token e in
-    let inner = after_expr e (41 ∷ []) [] in
-    ap (λ (bytes : List ℕ). 40 ∷ 32 ∷ bytes) (sym inner) ∙ rw first.1.1 refl
+-- what is written for `( e )` after some bytes
+pub paren : (before : List ℕ) (e : Expr) → ((before ++ (40 ∷ 32 ∷ [])) ++ comment_of e) ++ (32 ∷ 41 ∷ []) ≡ before ++ join_with_byte 32 ((40 ∷ []) ∷ (spell e ++ (41 ∷ []) ∷ []))
+paren before e =
+    let inner : join_with_byte 32 ((40 ∷ []) ∷ (spell e ++ (41 ∷ []) ∷ [])) ≡ 40 ∷ 32 ∷ (comment_of e ++ (32 ∷ 41 ∷ [])) = after_paren e in
+    rw inner (simp append_assoc)
 
-pub less : (a b : Expr) → comment_of a ++ (32 ∷ 60 ∷ 32 ∷ comment_of b) ≡ join_with_byte 32 (spell a ++ ((60 ∷ []) ∷ spell b))
-less a b = ap (λ (bytes : List ℕ). comment_of a ++ (32 ∷ bytes)) (sym (before_expr b (60 ∷ []))) ∙ sym (after_expr a (60 ∷ []) (spell b))
+-- what is written for `a < b` after some bytes
+pub less : (before : List ℕ) (a b : Expr) → ((before ++ comment_of a) ++ (32 ∷ 60 ∷ 32 ∷ [])) ++ comment_of b ≡ before ++ join_with_byte 32 (spell a ++ ((60 ∷ []) ∷ spell b))
+less before a b = rw (after_expr a (60 ∷ []) (spell b), before_expr b (60 ∷ [])) (simp append_assoc)

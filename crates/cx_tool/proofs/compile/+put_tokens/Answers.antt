@@ -1,0 +1,12 @@
+use Rattle.cx_tool.proofs.Comments.{paren, less}
+use Rattle.cx_tool.proofs.compile.+put_tokens.Goals as goal
+
+pub returns-in_ok-append-in-Paren-2 : goal.returns-in_ok-append-in-Paren-2
+returns-in_ok-append-in-Paren-2 t c =
+    rw (c.in-Paren.is, c.in_ok-append-in-Paren-2.ensures.ok, c.in_ok-put_tokens-in-Paren.ensures, c.deref.ensures, c.in_ok-append-in-Paren.ensures.ok)
+    (paren c.args.comment.now c.in-Paren.inner.value)
+
+pub returns-in_ok-put_tokens-in-Less-2 : goal.returns-in_ok-put_tokens-in-Less-2
+returns-in_ok-put_tokens-in-Less-2 t c =
+    rw (c.in-Less.is, c.in_ok-put_tokens-in-Less-2.ensures, c.deref-in-Less-2.ensures, c.in_ok-append-in-Less.ensures.ok, c.in_ok-put_tokens-in-Less.ensures, c.deref-in-Less.ensures)
+    (less c.args.comment.now c.in-Less.left.value c.in-Less.right.value)
