@@ -4,7 +4,7 @@ use Rattle.cx_outside.specs.declared.adapters.disk.DiskFiles.{DiskFiles}
 use Rattle.cx_outside.specs.declared.adapters.standard.StdSource.{StdSource}
 use Rattle.cx_outside.specs.declared.adapters.standard.StdSink.{StdSink}
 
-abbrev pub disk_faults : {R File Times : Type 0} → DiskFiles R File Times → ℕ
+abbrev pub disk_faults : {R File Dir : Type 0} → DiskFiles R File Dir → ℕ
 disk_faults files = files.faults
 
 abbrev pub source_faults : {R : Type 0} → StdSource R → ℕ
