@@ -34,5 +34,5 @@ module _ {K : Type 0} (bytes : K → List ℕ) where
   puts old new key name file own here others = record {
     holds = subst (λ (t : List ℕ). file_at new t ≡ Some file) own here;
     others = λ other differs. other_entries _ _ old new others _ (λ x y. (eq_by_cmp_equiv nat_list_cmp_total).congr other (bytes x) (bytes y))
-        (apart (bytes key) other (λ same. differs (same ∙ own)))
+        (apart (bytes key) other (λ same. differs (same ∙ own)));
   }
