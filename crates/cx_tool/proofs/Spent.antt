@@ -1,5 +1,5 @@
 -- A run that began isn't cut at the limit.
-use Rattle.std.proofs.Common.{◌≡◌, ◌≢◌, ◌⊎◌, ℕ, List, Option, sym, subst, ap, ◌∙◌}
+use Rattle.std.proofs.Common.{◌≡◌, ◌≢◌, ◌⊎◌, inl, inr, ℕ, List, Option, sym, subst, ap, ◌∙◌}
 use Rattle.cx_code.specs.declared.run.Run.{Run}
 use Rattle.cx_code.specs.declared.run.Ending.{Ending}
 use Rattle.cx_code.specs.declared.run.Ending.TheVariants as endings

@@ -1,7 +1,7 @@
 -- What the program's one public call promises, each promise with one sentence. What it rests on is this project's own.
 use Rattle.std.specs.Prelude.{◌≡◌, ◌≢◌, ℕ, List, ◌++◌, Option, Some, None}
 use Rattle.std.specs.Io.KnownBytes.{Appends}
-use Rattle.cx_outside.specs.Fault.{Rose}
+use Rattle.cx_outside.specs.Fault.{Rose, NoneFailed}
 use Rattle.cx_outside.specs.Folder.{Folder, WhereTold, BothTold, ChangesOnly}
 use Rattle.cx_code.specs.declared.run.Ending.TheVariants as endings
 use Rattle.cx_tool.specs.declared.answer.Answer.TheVariants as answers
@@ -22,24 +22,32 @@ pub record Seen : Type 0 where
   pub err_faults : ℕ
   pub err_faults' : ℕ
 
--- a call on the files failed
+-- a call on the files may have failed
 abbrev pub FilesFailed : Seen → Type 0
 FilesFailed seen = Rose seen.file_faults seen.file_faults'
 
--- a call on the error sink failed
+-- a call on the error sink may have failed
 abbrev pub ErrFailed : Seen → Type 0
 ErrFailed seen = Rose seen.err_faults seen.err_faults'
+
+-- no call on the files failed
+abbrev pub FilesHeld : Seen → Type 0
+FilesHeld seen = NoneFailed seen.file_faults seen.file_faults'
+
+-- no call on the error sink failed
+abbrev pub ErrHeld : Seen → Type 0
+ErrHeld seen = NoneFailed seen.err_faults seen.err_faults'
 
 -- what a call with these words, which saw this of the outside, promises of its report
 pub record Promises (words : List (List ℕ)) (seen : Seen) (report : Report) : Type 0 where
   -- Usage is answered only where the words aren't in the one form that there is.
   pub usage_has_cause : report.answer ≡ answers.Usage → named words ≡ None
   -- Where they aren't, and no call fails, Usage is answered, or want of memory.
-  pub usage_comes : named words ≡ None → ¬ ErrFailed seen → Comes report.answer answers.Usage
+  pub usage_comes : named words ≡ None → ErrHeld seen → Comes report.answer answers.Usage
   -- NoFile is answered only with the unit's name, where the files tell that they lack it, or tell nothing and a call failed.
   pub no_file_has_cause : (name : List ℕ) → report.answer ≡ answers.NoFile name → NamesUnit words name × WhereTold seen.files (λ folder. folder name ≡ None) (FilesFailed seen)
   -- Where they tell that they lack it, and no call fails, NoFile is answered, or want of memory.
-  pub no_file_comes : (unit : List ℕ) → NamesUnit words unit → TellsMissing seen.files unit → ¬ FilesFailed seen → ¬ ErrFailed seen → Comes report.answer (answers.NoFile unit)
+  pub no_file_comes : (unit : List ℕ) → NamesUnit words unit → TellsMissing seen.files unit → FilesHeld seen → ErrHeld seen → Comes report.answer (answers.NoFile unit)
   -- Unbuilt is answered only with the unit's name, where the files that tell something hold such a file.
   pub unbuilt_has_cause : (name : List ℕ) → report.answer ≡ answers.Unbuilt name → NamesUnit words name × TellsHeld seen.files name
   -- FileFault is answered only where a call on the files failed.

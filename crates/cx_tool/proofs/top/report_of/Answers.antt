@@ -2,7 +2,8 @@ use Rattle.std.proofs.Common.{sym, subst, ◌∙◌}
 use Rattle.cx_code.specs.Violation.{written}
 use Rattle.cx_tool.specs.Closing.{closing_text}
 use Rattle.cx_tool.specs.Report.{HasClosingLine}
-use Rattle.cx_tool.proofs.Closed.{same_answer, Appends-then, last_line}
+use Rattle.cx_outside.specs.Told.{Appends-then}
+use Rattle.cx_tool.proofs.Closed.{same_answer, last_line}
 use Rattle.cx_tool.proofs.top.report_of.Goals as goal
 
 pub returns-clause-no_file : goal.returns-clause-no_file
