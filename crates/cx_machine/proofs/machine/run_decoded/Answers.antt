@@ -3,6 +3,7 @@ use Rattle.std.proofs.Common.{◌+◌, [], refl, arith}
 use Rattle.cx_code.specs.Machine.{main_code, step}
 use Rattle.cx_machine.specs.Step.{appended_by}
 use Rattle.cx_machine.proofs.Runs.{start, goes_on, ends, is_spent, is_stopped}
+use Rattle.cx_outside.specs.Told.{Appends-nothing}
 use Rattle.cx_machine.proofs.Lines as lines
 use Rattle.cx_machine.proofs.Lines.{since_earlier}
 use Rattle.cx_machine.proofs.machine.run_decoded.Goals as goal
@@ -11,7 +12,7 @@ pub loop-taken-init : goal.loop-taken-init
 loop-taken-init g c =
     record {
       so_far = rw (c.new-journal.ensures, c.new.ensures) (start (main_code c.args.image.now) (record { place = 0; operands = [] }) refl refl);
-      lines = rw c.new-journal.ensures (lines.Appends-nothing _);
+      lines = rw c.new-journal.ensures (Appends-nothing _);
       later = omega arith;
     }
 
