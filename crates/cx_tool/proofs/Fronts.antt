@@ -1,5 +1,5 @@
 -- Which fronts of a text are tokens, and how a list of tokens grows at its end.
-use Rattle.std.proofs.Common.{◌≡◌, ℕ, zero, suc, ◌+◌, ◌-◌, ◌<◌, ◌≤◌, List, [], ◌∷◌, ◌++◌, length, length-drop, get_or, take, drop, slice_range, Bool, true, false, cond, not, eqb, ◌&&◌, ◌||◌, ◌==◌, refl, sym, ap, subst, ◌∙◌, arith, inl, inr, ne_eqb, eqb-true}
+use Rattle.std.proofs.Common.{◌≡◌, ℕ, zero, suc, ◌+◌, ◌-◌, ◌<◌, ◌≤◌, List, [], ◌∷◌, ◌++◌, length, length-drop, get_or, take, drop, slice_range, Bool, true, false, cond, not, ◌&&◌, ◌||◌, ◌==◌, refl, sym, ap, subst, ◌∙◌, arith, inl, inr, ne_eqb, eqb-true}
 use Rattle.std.specs.Str.{bytes_eq}
 use Rattle.std.specs.List.{list_all, list_any, prefix_len}
 use Rattle.std.proofs.lemmas.Bool.{cases_Bool, or_cases, or_left, or_right, or_parts, or_from, and_parts, true≢false}
@@ -45,11 +45,13 @@ digits_stop : (opened : Bool) (front : List ℕ) (b : ℕ) (rest : List ℕ) →
 digits_stop opened [] b rest digit quote =
     rw (digit, quote) (elim opened as (λ v. cond v false false ≡ false) [ true ↦ refl | false ↦ refl ])
 digits_stop opened (x ∷ xs) b rest digit quote =
-    elim (is_digit x) as (λ v. cond v (is_digits false (xs ++ b ∷ rest)) (cond opened false (x == 39 && is_digits true (xs ++ b ∷ rest))) ≡ false)
-    [ true ↦ digits_stop false xs b rest digit quote
-    | false ↦ elim opened as (λ v. cond v false (x == 39 && is_digits true (xs ++ b ∷ rest)) ≡ false)
-        [ true ↦ refl
-        | false ↦ elim (x == 39) as (λ v. (v && is_digits true (xs ++ b ∷ rest)) ≡ false) [ true ↦ digits_stop true xs b rest digit quote | false ↦ refl ] ] ]
+    elim (is_digit x) as (λ v. cond v (is_digits false (xs ++ b ∷ rest)) (cond opened false (x == 39 && is_digits true (xs ++ b ∷ rest))) ≡ false) [
+      | true ↦ digits_stop false xs b rest digit quote
+      | false ↦ elim opened as (λ v. cond v false (x == 39 && is_digits true (xs ++ b ∷ rest)) ≡ false) [
+        | true ↦ refl
+        | false ↦ elim (x == 39) as (λ v. (v && is_digits true (xs ++ b ∷ rest)) ≡ false) [ true ↦ digits_stop true xs b rest digit quote | false ↦ refl ]
+      ]
+    ]
 
 some_length : (front : List ℕ) (b : ℕ) (rest : List ℕ) → (length (front ++ b ∷ rest) == 0) ≡ false
 some_length [] b rest = ne_eqb (suc (length rest)) 0 (λ h. omega (arith, h))
@@ -61,9 +63,10 @@ no_punct test bytes [] each fails = refl
 no_punct test bytes (name ∷ names) each fails =
     let parts = and_parts (test name) (list_all test names) each in
     let other : bytes_eq bytes name ≡ false =
-        elim (cases_Bool (bytes_eq bytes name))
-        [ inl same ↦ absurd (true≢false (sym parts.0 ∙ (sym (ap test ((bytes_eq-Decides bytes name).0 same)) ∙ fails)))
-        | inr h ↦ h ] in
+    elim (cases_Bool (bytes_eq bytes name)) [
+      | inl same ↦ absurd (true≢false (sym parts.0 ∙ (sym (ap test ((bytes_eq-Decides bytes name).0 same)) ∙ fails)))
+      | inr h ↦ h
+    ] in
     or_from (bytes_eq bytes name) (list_any (bytes_eq bytes) names) other (no_punct test bytes names parts.1 fails)
 
 no_token : (bytes : List ℕ) → is_word bytes ≡ false → is_decimal bytes ≡ false → list_any (bytes_eq bytes) puncts ≡ false → is_token bytes ≡ false
@@ -82,11 +85,11 @@ past_word x front b rest begins stops =
     let inner = or_parts (is_letter b) (is_digit b) outer.0 in
     let longer = x ∷ (front ++ b ∷ rest) in
     let word : is_word longer ≡ false =
-        elim (is_letter x) as (λ v. (v && list_all is_letter_or_digit (front ++ b ∷ rest)) ≡ false)
-        [ true ↦ all_stops is_letter_or_digit front b rest outer.0 | false ↦ refl ] in
+    elim (is_letter x) as (λ v. (v && list_all is_letter_or_digit (front ++ b ∷ rest)) ≡ false)
+    [ true ↦ all_stops is_letter_or_digit front b rest outer.0 | false ↦ refl ] in
     let decimal : is_decimal longer ≡ false =
-        elim (x == 48) as (λ v. cond v (length (front ++ b ∷ rest) == 0) (is_digits true longer) ≡ false)
-        [ true ↦ some_length front b rest | false ↦ digits_stop true (x ∷ front) b rest inner.1 outer.1 ] in
+    elim (x == 48) as (λ v. cond v (length (front ++ b ∷ rest) == 0) (is_digits true longer) ≡ false)
+    [ true ↦ some_length front b rest | false ↦ digits_stop true (x ∷ front) b rest inner.1 outer.1 ] in
     no_token longer word decimal (no_punct no_word_begins longer puncts refl (ap not begins))
 
 longer : (x : ℕ) (xs : List ℕ) (k more : ℕ) → is_letter_or_digit x ≡ true → (k < length xs → goes_on (get_or xs k 0) ≡ false) → suc k < more → more ≤ length (x ∷ xs) → is_token (take more (x ∷ xs)) ≡ false
@@ -126,13 +129,16 @@ no_longer_lone (b ∷ d ∷ bytes) = not (is_lone b)
 
 lone_is : (b : ℕ) → is_lone b ≡ true → (is_letter_or_digit b) ≡ false
 lone_is b lone =
-    elim (or_cases (b == 40 || b == 41 || b == 123 || b == 125) (b == 59) lone)
-    [ inr h ↦ rw (eqb-true b 59 h)
-    | inl h ↦ elim (or_cases (b == 40 || b == 41 || b == 123) (b == 125) h)
-        [ inr i ↦ rw (eqb-true b 125 i)
-        | inl i ↦ elim (or_cases (b == 40 || b == 41) (b == 123) i)
-            [ inr j ↦ rw (eqb-true b 123 j)
-            | inl j ↦ elim (or_cases (b == 40) (b == 41) j) [ inl l ↦ rw (eqb-true b 40 l) | inr l ↦ rw (eqb-true b 41 l) ] ] ] ]
+    elim (or_cases (b == 40 || b == 41 || b == 123 || b == 125) (b == 59) lone) [
+      | inr h ↦ rw (eqb-true b 59 h)
+      | inl h ↦ elim (or_cases (b == 40 || b == 41 || b == 123) (b == 125) h) [
+        | inr i ↦ rw (eqb-true b 125 i)
+        | inl i ↦ elim (or_cases (b == 40 || b == 41) (b == 123) i) [
+          | inr j ↦ rw (eqb-true b 123 j)
+          | inl j ↦ elim (or_cases (b == 40) (b == 41) j) [ inl l ↦ rw (eqb-true b 40 l) | inr l ↦ rw (eqb-true b 41 l) ]
+        ]
+      ]
+    ]
 
 -- two bytes and more, where the first begins no word and no number
 past_first : (b d : ℕ) (rest : List ℕ) → is_letter_or_digit b ≡ false → list_any (bytes_eq (b ∷ d ∷ rest)) puncts ≡ false → is_token (b ∷ d ∷ rest) ≡ false
@@ -141,8 +147,8 @@ past_first b d rest begins punct =
     let word : is_word (b ∷ d ∷ rest) ≡ false = rw parts.0 in
     let digits : is_digits true (b ∷ d ∷ rest) ≡ false = rw parts.1 in
     let decimal : is_decimal (b ∷ d ∷ rest) ≡ false =
-        elim (b == 48) as (λ v. cond v (length (d ∷ rest) == 0) (is_digits true (b ∷ d ∷ rest)) ≡ false)
-        [ true ↦ some_length [] d rest | false ↦ digits ] in
+    elim (b == 48) as (λ v. cond v (length (d ∷ rest) == 0) (is_digits true (b ∷ d ∷ rest)) ≡ false)
+    [ true ↦ some_length [] d rest | false ↦ digits ] in
     no_token (b ∷ d ∷ rest) word decimal punct
 
 longer_alone : (x : ℕ) (xs : List ℕ) (more : ℕ) → is_letter_or_digit x ≡ false → ((rest : List ℕ) → 0 < length xs → list_any (bytes_eq (x ∷ get_or xs 0 0 ∷ rest)) puncts ≡ false) → 1 < more → more ≤ length (x ∷ xs) → is_token (take more (x ∷ xs)) ≡ false

@@ -1,7 +1,6 @@
 -- How what is read of the tokens grows.
-use Rattle.std.proofs.Common.{◌≡◌, ℕ, zero, suc, ◌+◌, ◌<◌, ◌≤◌, List, [], ◌∷◌, ◌++◌, length, get_or, take, map, Bool, true, false, cond, All, refl, sym, ap, subst, ◌∙◌, arith, append_assoc, codes, Result, Ok, Err}
-use Rattle.std.specs.List.{filter, flat_map}
-use Rattle.std.specs.Result.{OnOk, is_ok}
+use Rattle.std.proofs.Common.{◌≡◌, ℕ, suc, ◌+◌, ◌<◌, ◌≤◌, List, [], ◌∷◌, ◌++◌, length, get_or, take, map, Bool, true, false, cond, All, refl, sym, ap, subst, ◌∙◌, arith, append_assoc, codes, Result, Ok, Err}
+use Rattle.std.specs.Result.{IfOk, OnOk, is_ok}
 use Rattle.std.specs.Str.{bytes_eq}
 use Rattle.std.proofs.lemmas.List.{take_more, take_all, map-append, append-nil}
 use Rattle.std.proofs.lemmas.List.Elements.{filter-append}
@@ -9,10 +8,10 @@ use Rattle.cx_tool.specs.declared.lexer.Token.{Token}
 use Rattle.cx_tool.specs.declared.lexer.Kind.{Kind}
 use Rattle.cx_tool.specs.declared.lexer.Kind.TheVariants as kinds
 use Rattle.cx_tool.specs.declared.lexer.PlacedToken.{PlacedToken}
-use Rattle.cx_tool.specs.declared.tree.Check.{Check}
+use Rattle.cx_tool.specs.declared.tree.Expr.{Expr}
 use Rattle.cx_tool.specs.declared.tree.SourceUnit.{SourceUnit}
-use Rattle.cx_tool.specs.Tokens.{bytes_of, is_decimal, Spells}
-use Rattle.cx_tool.specs.Grammar.{spell_check, IsShaped, IsUnitOf, line_at, column_at, assertion_words}
+use Rattle.cx_tool.specs.Tokens.{bytes_of, Spells}
+use Rattle.cx_tool.specs.Grammar.{spell, IsUnitOf, line_at, column_at, assertion_words}
 use Rattle.cx_tool.specs.Lexed.{KindSpells, IsPlaced}
 use Rattle.cx_tool.specs.Reading.{words_of, asserted, lines_of, columns_of, Reads, ReadsUnit, HasKind}
 
@@ -96,11 +95,19 @@ one_assert text tokens at d placed has =
       more_columns = ap (map (λ (one : PlacedToken). one.column)) more ∙ map-append (λ (one : PlacedToken). one.column) (asserted text (take at tokens)) (token ∷ []);
     }
 
--- ---- a whole unit
-
 pub on_ok : {T E : Type 0} (r : Result T E) (P : Type 0) → OnOk r P → is_ok r ≡ true → P
 on_ok (Ok x) P h e = h
 on_ok (Err x) P h e = cc
+
+-- an expression between parentheses, where what reads the second answers `Ok`
+pub in_parens : {R E : Type 0} (text : List ℕ) (tokens : List PlacedToken) (at end : ℕ) (inner : Expr) (whole : R → Expr) (next : R → ℕ) (r : Result R E) → All (IsPlaced text) tokens → HasKind tokens at kinds.OpenParen → Reads text tokens (at + 1) end (spell inner) [] [] → OnOk r (HasKind tokens end kinds.CloseParen) → IfOk r (λ read. next read ≡ end + 1) → IfOk r (λ read. spell (whole read) ≡ codes "(" ∷ (spell inner ++ codes ")" ∷ [])) → IfOk r (λ read. Reads text tokens at (next read) (spell (whole read)) [] [])
+in_parens text tokens at end inner whole next (Ok read) placed opens reads closes after spelled =
+    let open_word = one_of text tokens at (at + 1) kinds.OpenParen (codes "(") placed opens (λ b h. h) refl refl in
+    let close_word = one_of text tokens end (next read) kinds.CloseParen (codes ")") placed closes (λ b h. h) refl after in
+    rw spelled (then text tokens open_word (then text tokens reads close_word))
+in_parens text tokens at end inner whole next (Err fault) placed opens reads closes after spelled = tt
+
+-- ---- a whole unit
 
 map_map : {X Y Z : Type 0} (f : Y → Z) (g : X → Y) (xs : List X) → map f (map g xs) ≡ map (λ (x : X). f (g x)) xs
 map_map f g [] = refl

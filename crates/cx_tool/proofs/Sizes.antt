@@ -82,12 +82,14 @@ small_checks (c ∷ cs) shaped few short =
     let words = length-append (spell_check c) (flat_map spell_check cs) in
     let bytes = sum_by-append length (spell_check c) (flat_map spell_check cs) in
     let here = length_words c in
-    let within = total_words c in
-    (record {
-      ints = has_ints c.predicate (shaped 0 c (omega arith));
-      predicate = omega (arith, short_code c.predicate);
-      comment = omega (arith, short_join (spell c.predicate));
-    }, small_checks cs (λ k d lt. shaped (suc k) d (omega arith)) (omega arith) (omega arith))
+    let within = total_words c in (
+      record {
+        ints = has_ints c.predicate (shaped 0 c (omega arith));
+        predicate = omega (arith, short_code c.predicate);
+        comment = omega (arith, short_join (spell c.predicate));
+      },
+      small_checks cs (λ k d lt. shaped (suc k) d (omega arith)) (omega arith) (omega arith),
+    )
 
 -- what a unit spells is its checks, eight words and its value
 length_unit : (unit : SourceUnit) → length (spell_unit unit) ≡ 8 + length (flat_map spell_check unit.checks) + length (spell unit.value)

@@ -1,5 +1,5 @@
 -- The trees of the language that is built so far, their tokens, and which tree is that of a text: a part of the C++ grammar.
-use Rattle.std.specs.Prelude.{◌≡◌, ℕ, ◌+◌, ◌≤◌, List, [], ◌∷◌, ◌++◌, length, take, map, filter, count_by, Bool, true, ◌==◌, codes, ⊤, if◌then◌else◌}
+use Rattle.std.specs.Prelude.{◌≡◌, ℕ, ◌+◌, ◌≤◌, List, [], ◌∷◌, ◌++◌, take, map, filter, count_by, true, ◌==◌, codes, ⊤, if◌then◌else◌}
 use Rattle.std.specs.List.{All, flat_map, join_with_byte}
 use Rattle.std.specs.Str.{bytes_eq}
 use Rattle.cx_tool.specs.declared.lexer.Token.{Token}

@@ -1,6 +1,5 @@
 -- What the lexer says of each token beside its bytes, and of each position in a text: this project's own.
 use Rattle.std.specs.Prelude.{◌≡◌, ℕ, ◌<◌, ◌≤◌, List, length, take, Bool, true, false, ◌==◌, ◌||◌, codes}
-use Rattle.cx_tool.specs.declared.lexer.Token.{Token}
 use Rattle.cx_tool.specs.declared.lexer.Kind.{Kind}
 use Rattle.cx_tool.specs.declared.lexer.Kind.TheVariants as kinds
 use Rattle.cx_tool.specs.declared.lexer.PlacedToken.{PlacedToken}

@@ -1,13 +1,14 @@
 -- What the parser has read of the tokens of a text: this project's own.
-use Rattle.std.specs.Prelude.{◌≡◌, ℕ, ◌<◌, ◌≤◌, List, [], ◌∷◌, ◌++◌, length, get_or, take, map, filter, codes}
+use Rattle.std.specs.Prelude.{◌≡◌, ℕ, ◌<◌, ◌≤◌, List, [], ◌++◌, length, get_or, take, map, filter, codes}
 use Rattle.std.specs.List.{All, flat_map}
 use Rattle.std.specs.Str.{bytes_eq}
 use Rattle.cx_tool.specs.declared.lexer.Kind.{Kind}
 use Rattle.cx_tool.specs.declared.lexer.PlacedToken.{PlacedToken}
+use Rattle.cx_tool.specs.declared.tree.Expr.{Expr}
 use Rattle.cx_tool.specs.declared.tree.Check.{Check}
 use Rattle.cx_tool.specs.declared.tree.SourceUnit.{SourceUnit}
 use Rattle.cx_tool.specs.Tokens.{bytes_of}
-use Rattle.cx_tool.specs.Grammar.{spell_check, spell_unit, IsShaped}
+use Rattle.cx_tool.specs.Grammar.{spell, spell_check, spell_unit, IsShaped}
 
 -- the bytes of each token
 abbrev pub words_of : List ℕ → List PlacedToken → List (List ℕ)
@@ -30,6 +31,12 @@ pub record Reads (text : List ℕ) (tokens : List PlacedToken) (from to : ℕ) (
   pub more_words : words_of text (take to tokens) ≡ words_of text (take from tokens) ++ words
   pub more_lines : lines_of text (take to tokens) ≡ lines_of text (take from tokens) ++ lines
   pub more_columns : columns_of text (take to tokens) ≡ columns_of text (take from tokens) ++ columns
+
+-- what is read from one place to before another makes an expression of its first operand
+pub record ReadsOn (text : List ℕ) (tokens : List PlacedToken) (from : ℕ) (first : Expr) (to : ℕ) (whole : Expr) : Type 0 where
+  pub words : List (List ℕ)
+  pub spelled : spell whole ≡ spell first ++ words
+  pub reads : Reads text tokens from to words [] []
 
 -- the token at a place is of a kind
 pub record HasKind (tokens : List PlacedToken) (at : ℕ) (kind : Kind) : Type 0 where

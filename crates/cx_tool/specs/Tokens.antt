@@ -1,5 +1,5 @@
 -- Which tokens spell a text of the language that is built so far: a part of [lex], as this project narrows it.
-use Rattle.std.specs.Prelude.{◌≡◌, ℕ, ◌+◌, ◌-◌, ◌*◌, ◌<◌, ◌≤◌, List, [], ◌∷◌, length, take, drop, Bool, true, false, ◌==◌, ◌&&◌, ◌||◌, nat_le, codes, fold, if◌then◌else◌, slice_range}
+use Rattle.std.specs.Prelude.{◌≡◌, ℕ, ◌+◌, ◌-◌, ◌*◌, ◌<◌, ◌≤◌, List, [], ◌∷◌, length, drop, Bool, true, false, ◌==◌, ◌&&◌, ◌||◌, nat_le, codes, fold, if◌then◌else◌, slice_range}
 use Rattle.std.specs.List.{list_all, list_any}
 use Rattle.std.specs.Str.{bytes_eq}
 use Rattle.cx_tool.specs.declared.lexer.Token.{Token}

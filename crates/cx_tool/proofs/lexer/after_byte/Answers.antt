@@ -1,5 +1,5 @@
 use Rattle.std.proofs.Common.{arith, eq-eqb, ne_eqb}
-use Rattle.cx_tool.proofs.Positions.{after_newline, after_other, line_short, column_short}
+use Rattle.cx_tool.proofs.Positions.{after_newline, after_other, column_short}
 use Rattle.cx_tool.proofs.lexer.after_byte.Goals as goal
 
 pub overflow_add-result-else-text-position-eq10 : goal.overflow_add-result-else-text-position-eq10

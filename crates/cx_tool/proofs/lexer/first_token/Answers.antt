@@ -1,4 +1,3 @@
-use Rattle.std.proofs.Common.{◌≡◌, get_or, refl}
 use Rattle.cx_tool.specs.declared.lexer.Kind.TheVariants as kinds
 use Rattle.cx_tool.proofs.Fronts.{first_lone}
 use Rattle.cx_tool.proofs.lexer.first_token.Goals as goal
