@@ -1,5 +1,5 @@
 -- The comment of a compound expression, by those of its parts.
-use Rattle.std.proofs.Common.{◌≡◌, ◌≢◌, ℕ, List, [], ◌∷◌, ◌++◌, refl, sym, ap, ◌∙◌, append_assoc}
+use Rattle.std.proofs.Common.{◌≡◌, ℕ, List, [], ◌∷◌, ◌++◌, refl, sym, ap, ◌∙◌, append_assoc}
 use Rattle.std.specs.List.{join_with_byte}
 use Rattle.cx_tool.specs.declared.tree.Expr.{Expr}
 use Rattle.cx_tool.specs.declared.tree.Expr.TheVariants.{Number, Paren', Less'}

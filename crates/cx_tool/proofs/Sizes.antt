@@ -1,5 +1,5 @@
 -- How large a unit is that is read from a small text.
-use Rattle.std.proofs.Common.{◌≡◌, ℕ, zero, suc, ◌+◌, ◌-◌, ◌*◌, ◌<◌, ◌≤◌, List, [], ◌∷◌, ◌++◌, length, take, drop, slice_range, map, All, refl, sym, ap, ◌∙◌, arith, length-append, length-take, length-drop, codes}
+use Rattle.std.proofs.Common.{◌≡◌, ℕ, suc, ◌+◌, ◌-◌, ◌*◌, ◌≤◌, List, [], ◌∷◌, ◌++◌, length, drop, map, All, ap, arith, length-append, length-take, codes}
 use Rattle.std.specs.List.{flat_map, sum_by, join_with_byte, AllByRecursion}
 use Rattle.std.proofs.lemmas.List.Elements.{All-from_recursion}
 use Rattle.std.proofs.lemmas.List.Sums.{sum_by-cons, sum_by-append}
@@ -9,9 +9,9 @@ use Rattle.cx_tool.specs.declared.tree.Expr.TheVariants.{Number, Paren', Less'}
 use Rattle.cx_tool.specs.declared.tree.Check.{Check}
 use Rattle.cx_tool.specs.declared.tree.SourceUnit.{SourceUnit}
 use Rattle.cx_tool.specs.Tokens.{bytes_of, SpellsFrom}
-use Rattle.cx_tool.specs.Grammar.{spell, spell_check, spell_unit, IsShaped, IsUnitOf, comment_of}
+use Rattle.cx_tool.specs.Grammar.{spell, spell_check, spell_unit, IsShaped, IsUnitOf}
 use Rattle.cx_tool.specs.Ints.{HasInts}
-use Rattle.cx_tool.specs.Code.{instruction, expr_code, check_code, checks_code, value_code, unit_code, IsSmall, IsSmallCheck}
+use Rattle.cx_tool.specs.Code.{instruction, expr_code, check_code, checks_code, value_code, IsSmall, IsSmallCheck}
 use Rattle.cx_tool.proofs.Emitted.{length_check}
 
 -- how many bytes words have

@@ -1,7 +1,6 @@
 -- A run that began isn't cut at the limit.
-use Rattle.std.proofs.Common.{◌≡◌, ◌≢◌, ◌⊎◌, inl, inr, ℕ, List, Option, sym, subst, ap, ◌∙◌}
+use Rattle.std.proofs.Common.{◌≡◌, ◌≢◌, inl, inr, ℕ, List, Option, sym, ap, ◌∙◌}
 use Rattle.cx_code.specs.declared.run.Run.{Run}
-use Rattle.cx_code.specs.declared.run.Ending.{Ending}
 use Rattle.cx_code.specs.declared.run.Ending.TheVariants as endings
 use Rattle.cx_outside.specs.Folder.{Folder}
 use Rattle.cx_tool.specs.Report.{HasBegun, OfNames, not_started}
