@@ -1,13 +1,9 @@
-// A library with one function.
+//! The tokens of a text, after [lex].
 #![tactic(auto)]
 
-ghost use Rattle.std.specs.Prelude.{◌≡◌};
-ghost use Rattle.cx_lexer.specs.Echo.{echo_of};
+ghost use Rattle.std.specs.Prelude.{◌≡◌, ℕ};
+ghost use Rattle.cx_lexer.specs.Spelling.{Spells, IsFaultOf};
 
-// The `ensures` clause is the contract: what `echo` returns is `echo_of` of its argument, a definition
-// in `specs/Echo.antt`, which a caller's clause can cite too.
-pub fn echo(x: usize) -> usize
-    ensures { result ≡ echo_of x }
-{
-    x
-}
+mod fault;
+
+pub use fault::LexFault;
