@@ -1,6 +1,6 @@
 -- Comments, after [lex.comment], and the line splices of [lex.phases], which the language leaves out: where C++ would
 -- give one a meaning in a comment, the comment is refused.
-use Rattle.std.specs.Prelude.{◌≡◌, ◌==◌, ◌&&◌, ◌||◌, Bool, false, not, ℕ, suc, List, [], ◌∷◌, ◌++◌, Option, Some, None, option_map, if◌then◌else◌, IsTrue, length, take, nat_lt, reverse}
+use Rattle.std.specs.Prelude.{◌≡◌, ◌==◌, ◌&&◌, ◌||◌, Bool, false, not, ℕ, suc, List, [], ◌∷◌, ◌++◌, Option, Some, None, option_map, if◌then◌else◌, IsTrue, ◌<◌, length, take, nat_lt, reverse}
 use Rattle.std.specs.Option.{option_map_or}
 use Rattle.std.specs.List.{list_all, flat_map, find, prefix_len}
 use Rattle.cx_lexer.specs.Bytes.{begins, is_splice_blank, slash, star, newline, backslash}
@@ -39,8 +39,8 @@ splice blanks = backslash ∷ (blanks ++ newline ∷ [])
 -- ends the comment there.
 pub record HidesEnd (body : List ℕ) : Type 0 where
   pub before : List ℕ
-  pub first : List ℕ
-  pub more : List (List ℕ)
+  pub splices : List (List ℕ)
   pub after : List ℕ
-  pub blank : IsTrue (list_all (list_all is_splice_blank) (first ∷ more))
-  pub spelled : body ≡ before ++ star ∷ (flat_map splice (first ∷ more) ++ slash ∷ after)
+  pub some : 0 < length splices
+  pub blank : IsTrue (list_all (list_all is_splice_blank) splices)
+  pub spelled : body ≡ before ++ star ∷ (flat_map splice splices ++ slash ∷ after)
