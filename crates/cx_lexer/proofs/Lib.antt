@@ -5,3 +5,5 @@ pub mod Names
 pub mod Puncts
 pub mod Quotes
 pub mod Comments
+pub mod Values
+pub mod Ends

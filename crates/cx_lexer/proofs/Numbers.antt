@@ -1,5 +1,5 @@
 -- The scanner's lengths of numbers are those of the longest ones.
-use Rattle.std.proofs.Common.{◌≡◌, ◌==◌, ◌&&◌, ◌||◌, Bool, true, false, not, ℕ, zero, suc, ◌+◌, ◌-◌, ◌<◌, ◌≤◌, List, [], ◌∷◌, length, get_or, take, drop, cond, eqb, leb, ltb, refl, sym, ◌∙◌, ap, arith, rules, ◌⊎◌, ⊎_elim, length-drop}
+use Rattle.std.proofs.Common.{◌≡◌, ◌==◌, ◌&&◌, ◌||◌, Bool, true, false, not, ℕ, zero, suc, ◌+◌, ◌-◌, ◌<◌, ◌≤◌, List, [], ◌∷◌, length, get_or, take, drop, cond, eqb, leb, ltb, refl, sym, ◌∙◌, ap, subst, arith, rules, ◌⊎◌, ⊎_elim, length-drop, drop-drop}
 use Rattle.std.specs.Prelude.{if◌then◌else◌, IsTrue, IsFalse}
 use Rattle.std.proofs.lemmas.Bool.{cond-true, cond-false, cases_Bool, true≢false, false≢true, and_left, and_right, or_from, or_left, and_from, or_parts, and_parts, or_cases, eqb-true, cond_both, le-leb, leb-true, or_right}
 use Rattle.std.proofs.lemmas.Bool.Decides.{nat_tests}
@@ -241,3 +241,96 @@ number_longest a xs digit =
       passes = cond-false _ _ _ e ∙ and_from _ _ digit (tail_passes 10 xs);
       longest = behind is_number (a ∷ xs) _ (λ m above within. cond-false _ _ _ e ∙ and_right _ _ (tail_longest 10 xs m (omega arith) (omega arith)));
     })
+
+-- a digit that the scanner takes
+pub digit_within : (base : ℕ) (xs : List ℕ) → digit_length base xs ≤ length xs
+unfolding digit_length
+digit_within base xs =
+    cond_both (leb 1 (length xs) && is_digit base (get_or xs 0 0)) 1 (cond (leb 2 (length xs) && eqb (get_or xs 0 0) quote && is_digit base (get_or xs 1 0)) 2 0) (λ n. n ≤ length xs)
+    (λ e. leb-true 1 _ (and_parts _ _ e).0)
+    (λ _. cond_both (leb 2 (length xs) && eqb (get_or xs 0 0) quote && is_digit base (get_or xs 1 0)) 2 0 (λ n. n ≤ length xs)
+      (λ e. leb-true 2 _ (and_parts _ _ (and_parts _ _ e).0).0)
+      (λ _. omega arith))
+
+nothing_behind : suffix_length [] ≡ 0
+unfolding suffix_length
+nothing_behind = refl
+
+-- a quote begins no suffix
+quote_no_suffix : (xs : List ℕ) → suffix_length (quote ∷ xs) ≡ 0
+unfolding is_u
+quote_no_suffix xs = at_none (suffix_length (quote ∷ xs)) (suffix_passes (quote ∷ xs))
+  where
+    at_none : (n : ℕ) → is_suffix (take n (quote ∷ xs)) ≡ true → n ≡ 0
+    at_none zero e = refl
+    at_none (suc n) e = absurd (true≢false (sym e ∙ no_suffix quote refl refl (take n xs)))
+
+module _ (base : ℕ) where
+  at_quote : (a b : ℕ) (xs : List ℕ) → (eqb a quote && is_digit base b) ≡ false → cond (eqb a quote) (cond (is_digit base b) (suc (suc (tail_length base xs))) 0) (suffix_length (a ∷ b ∷ xs)) ≡ suffix_length (a ∷ b ∷ xs)
+  at_quote a b xs none =
+      ⊎_elim
+      (λ e. cond-true _ _ _ e ∙ (cond-false _ _ _ (sym (ap (λ t. t && is_digit base b) e) ∙ none) ∙ sym (ap (λ c. suffix_length (c ∷ b ∷ xs)) (eqb-true a quote e) ∙ quote_no_suffix (b ∷ xs))))
+      (λ e. cond-false _ _ _ e)
+      (cases_Bool (eqb a quote))
+
+  digit_none : digit_length base [] ≡ 0
+  unfolding digit_length
+  digit_none = refl
+
+  digit_alone : (a : ℕ) → digit_length base (a ∷ []) ≡ cond (is_digit base a) 1 0
+  unfolding digit_length
+  digit_alone a = refl
+
+  digit_before : (a b : ℕ) (xs : List ℕ) → digit_length base (a ∷ b ∷ xs) ≡ cond (is_digit base a) 1 (cond (eqb a quote && is_digit base b) 2 0)
+  unfolding digit_length
+  digit_before a b xs = rw (le-leb 1 (suc (suc (length xs))) (omega arith), le-leb 2 (suc (suc (length xs))) (omega arith)) refl
+
+  -- what a digit of that length leaves
+  abbrev Steps : List ℕ → ℕ → Type 0
+  Steps xs n = 0 < n → tail_length base xs ≡ n + tail_length base (drop n xs)
+
+  pub tail_steps : (xs : List ℕ) → Steps xs (digit_length base xs)
+  unfolding tail_length
+  tail_steps [] = subst (Steps []) (sym digit_none) (λ h. absurd (omega arith))
+  tail_steps (a ∷ []) =
+      subst (Steps (a ∷ [])) (sym (digit_alone a))
+      (cond_both (is_digit base a) 1 0 (Steps (a ∷ [])) (λ e _. cond-true _ _ _ e ∙ omega arith) (λ _ h. absurd (omega arith)))
+  tail_steps (a ∷ b ∷ xs) =
+      subst (Steps (a ∷ b ∷ xs)) (sym (digit_before a b xs))
+      (cond_both (is_digit base a) 1 (cond (eqb a quote && is_digit base b) 2 0) (Steps (a ∷ b ∷ xs))
+        (λ e _. cond-true _ _ _ e ∙ omega arith)
+        (λ e. cond_both (eqb a quote && is_digit base b) 2 0 (Steps (a ∷ b ∷ xs))
+          (λ f _. let parts = and_parts (eqb a quote) (is_digit base b) f in cond-false _ _ _ e ∙ (cond-true _ _ _ parts.0 ∙ (cond-true _ _ _ parts.1 ∙ omega arith)))
+          (λ _ h. absurd (omega arith))))
+
+  -- where no digit comes
+  abbrev Stops : List ℕ → ℕ → Type 0
+  Stops xs n = n ≡ 0 → tail_length base xs ≡ suffix_length xs
+
+  pub tail_stops : (xs : List ℕ) → Stops xs (digit_length base xs)
+  unfolding tail_length
+  tail_stops [] = λ _. sym nothing_behind
+  tail_stops (a ∷ []) =
+      subst (Stops (a ∷ [])) (sym (digit_alone a))
+      (cond_both (is_digit base a) 1 0 (Stops (a ∷ [])) (λ _ h. absurd (omega arith)) (λ e _. cond-false _ _ _ e))
+  tail_stops (a ∷ b ∷ xs) =
+      subst (Stops (a ∷ b ∷ xs)) (sym (digit_before a b xs))
+      (cond_both (is_digit base a) 1 (cond (eqb a quote && is_digit base b) 2 0) (Stops (a ∷ b ∷ xs))
+        (λ _ h. absurd (omega arith))
+        (λ e. cond_both (eqb a quote && is_digit base b) 2 0 (Stops (a ∷ b ∷ xs))
+          (λ _ h. absurd (omega arith))
+          (λ f _. cond-false _ _ _ e ∙ at_quote a b xs f)))
+
+-- one more digit, or the end of them, at a place of a rest
+pub tail_more : (base : ℕ) (xs : List ℕ) (at step : ℕ) → step ≡ digit_length base (drop at xs) → 0 < step → at + tail_length base (drop at xs) ≡ tail_length base xs → (at + step) + tail_length base (drop (at + step) xs) ≡ tail_length base xs
+tail_more base xs at step is some so_far =
+    let some_here : 0 < digit_length base (drop at xs) = omega arith in
+    let moved : drop (digit_length base (drop at xs)) (drop at xs) ≡ drop (at + step) xs = drop-drop (digit_length base (drop at xs)) at xs ∙ ap (λ n. drop (at + n) xs) (sym is) in
+    let steps = tail_steps base (drop at xs) some_here in
+    let same = ap (tail_length base) moved in
+    omega arith
+
+pub tail_ends : (base : ℕ) (xs : List ℕ) (at step : ℕ) → step ≡ digit_length base (drop at xs) → step ≤ 0 → at + tail_length base (drop at xs) ≡ tail_length base xs → at + suffix_length (drop at xs) ≡ tail_length base xs
+tail_ends base xs at step is none so_far =
+    let stops = tail_stops base (drop at xs) (omega arith) in
+    omega arith

@@ -51,3 +51,7 @@ unfolding punct_length
 no_punct b rest bytes none =
     let alone : is_punct (b ∷ []) ≡ false = three_longest is_punct (b ∷ rest) 1 (long_punct (b ∷ rest)) (omega arith) (omega arith) in
     false_from_ne_true _ (λ e. true≢false (sym (punct_first b bytes e) ∙ alone))
+
+pub punct_within : (xs : List ℕ) → punct_length xs ≤ length xs
+unfolding punct_length
+punct_within xs = three_within is_punct xs

@@ -1,11 +1,11 @@
 -- The scanner's character and string literals are the only ones that begin there.
-use Rattle.std.proofs.Common.{◌≡◌, ◌&&◌, ◌||◌, Bool, true, false, not, ℕ, zero, suc, ◌+◌, ◌<◌, ◌≤◌, List, [], ◌∷◌, length, get_or, take, drop, cond, eqb, leb, refl, sym, ◌∙◌, ap, subst, arith, ⊎_elim, min}
+use Rattle.std.proofs.Common.{◌≡◌, ◌&&◌, ◌||◌, Bool, true, false, not, ℕ, zero, suc, ◌+◌, ◌<◌, ◌≤◌, List, [], ◌∷◌, length, get_or, take, drop, cond, eqb, leb, refl, sym, ◌∙◌, ap, subst, arith, ⊎_elim, min, drop-drop}
 use Rattle.std.proofs.lemmas.List.{take_min}
 use Rattle.cx_lexer.proofs.Fronts.{behind}
-use Rattle.std.proofs.lemmas.Bool.{cond_both, cond-true, cond-false, and_parts, and_from, and_left, and_right, or_cases, or_left, or_right, cases_Bool, le-leb, leb-true, true≢false, false≢true, false_from_ne_true, not_from_true}
+use Rattle.std.proofs.lemmas.Bool.{cond_both, cond-true, cond-false, and_parts, and_from, and_left, and_right, or_cases, or_left, or_right, cases_Bool, le-leb, leb-true, true≢false, false≢true, false_from_ne_true, not_from_true, ne_eqb}
 use Rattle.cx_lexer.specs.Bytes.{begins, quote, double_quote, newline, backslash, zero_digit, is_within}
 use Rattle.cx_lexer.specs.Quoted.{is_char, is_plain, is_escape, escapes, closes_text, is_text}
-use Rattle.cx_lexer.specs.Scan.{IsLongest, char_length, text_length}
+use Rattle.cx_lexer.specs.Scan.{IsLongest, char_length, text_length, text_step}
 
 -- escapes look no further than the front that ends behind them
 escapes_within : (b : ℕ) (xs : List ℕ) (m : ℕ) → 0 < m → escapes (b ∷ take m xs) ≡ escapes (b ∷ xs)
@@ -259,3 +259,67 @@ no_char xs n none =
       let is = ap is_char same ∙ h in
       let empty : m ≡ 0 = char_is xs m (omega arith) is ∙ none in
       true≢false (sym is ∙ (ap (λ k. is_char (take k xs)) empty ∙ nothing_is_char)))
+
+pub text_step_within : (xs : List ℕ) → text_step xs ≤ length xs
+unfolding text_step escapes
+text_step_within [] = omega arith
+text_step_within (a ∷ []) = grind arith
+text_step_within (a ∷ b ∷ xs) = grind arith
+
+-- what a character of that length leaves
+abbrev Steps : List ℕ → ℕ → Type 0
+Steps xs n = 0 < n → text_length xs ≡ n + text_length (drop n xs)
+
+abbrev Stops : List ℕ → ℕ → Type 0
+Stops xs n = n ≡ 0 → text_length xs ≡ 0
+
+abbrev Moves : List ℕ → ℕ → Type 0
+Moves xs n = Steps xs n × Stops xs n
+
+step_at : (a : ℕ) (ys : List ℕ) → text_step (a ∷ ys) ≡ cond (eqb a double_quote || eqb a newline) 0 (cond (eqb a backslash) (cond (escapes ys) 2 0) 1)
+unfolding text_step
+step_at a ys = ap (λ t. cond (t || eqb a double_quote || eqb a newline) 0 (cond (eqb a backslash) (cond (escapes ys) 2 0) 1)) (ne_eqb (suc (length ys)) 0 (λ e. absurd (omega arith)))
+
+no_escape : escapes [] ≡ false
+unfolding escapes
+no_escape = refl
+
+stops_at : (a : ℕ) (ys : List ℕ) → text_length (a ∷ ys) ≡ 0 → Moves (a ∷ ys) 0
+stops_at a ys e = (λ h. absurd (omega arith), λ _. e)
+
+no_step : Moves [] (text_step [])
+unfolding text_step text_length
+no_step = (λ h. absurd (omega arith), λ _. refl)
+
+text_steps : (xs : List ℕ) → Moves xs (text_step xs)
+text_steps [] = no_step
+text_steps (a ∷ []) =
+    subst (Moves (a ∷ [])) (sym (step_at a []))
+    (cond_both (eqb a double_quote || eqb a newline) 0 (cond (eqb a backslash) (cond (escapes []) 2 0) 1) (Moves (a ∷ []))
+      (λ e. stops_at a [] (none_at_end a [] e))
+      (λ e. cond_both (eqb a backslash) (cond (escapes []) 2 0) 1 (Moves (a ∷ []))
+        (λ f. subst (Moves (a ∷ [])) (sym (cond-false _ _ _ no_escape)) (stops_at a [] (slant_alone a e f)))
+        (λ f. (λ _. plain_more a [] e f ∙ omega arith, λ h. absurd (omega arith)))))
+text_steps (a ∷ b ∷ rest) =
+    subst (Moves (a ∷ b ∷ rest)) (sym (step_at a (b ∷ rest)))
+    (cond_both (eqb a double_quote || eqb a newline) 0 (cond (eqb a backslash) (cond (escapes (b ∷ rest)) 2 0) 1) (Moves (a ∷ b ∷ rest))
+      (λ e. stops_at a (b ∷ rest) (none_at_end a (b ∷ rest) e))
+      (λ e. cond_both (eqb a backslash) (cond (escapes (b ∷ rest)) 2 0) 1 (Moves (a ∷ b ∷ rest))
+        (λ f. cond_both (escapes (b ∷ rest)) 2 0 (Moves (a ∷ b ∷ rest))
+          (λ g. (λ _. slant_more a b rest e f ∙ (cond-true _ _ _ g ∙ omega arith), λ h. absurd (omega arith)))
+          (λ g. stops_at a (b ∷ rest) (slant_more a b rest e f ∙ cond-false _ _ _ g)))
+        (λ f. (λ _. plain_more a (b ∷ rest) e f ∙ omega arith, λ h. absurd (omega arith)))))
+
+-- one more character, or the end of them, at a place of a rest
+pub text_more : (xs : List ℕ) (at step : ℕ) → step ≡ text_step (drop at xs) → 0 < step → at + text_length (drop at xs) ≡ text_length xs → (at + step) + text_length (drop (at + step) xs) ≡ text_length xs
+text_more xs at step is some so_far =
+    let some_here : 0 < text_step (drop at xs) = omega arith in
+    let moved : drop (text_step (drop at xs)) (drop at xs) ≡ drop (at + step) xs = drop-drop (text_step (drop at xs)) at xs ∙ ap (λ n. drop (at + n) xs) (sym is) in
+    let steps = (text_steps (drop at xs)).0 some_here in
+    let same = ap text_length moved in
+    omega arith
+
+pub text_ends : (xs : List ℕ) (at step : ℕ) → step ≡ text_step (drop at xs) → step ≤ 0 → at + text_length (drop at xs) ≡ text_length xs → at ≡ text_length xs
+text_ends xs at step is none so_far =
+    let stops = (text_steps (drop at xs)).1 (omega arith) in
+    omega arith

@@ -4,7 +4,13 @@
 ghost use Rattle.std.specs.Prelude.{◌≡◌, ℕ};
 ghost use Rattle.cx_lexer.specs.Spelling.{Spells, IsFaultOf};
 
+mod bytes;
 mod fault;
+mod name;
+mod number;
+mod punct;
+mod quoted;
 mod seen;
+mod table;
 
 pub use fault::LexFault;
