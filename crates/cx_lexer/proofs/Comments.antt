@@ -1,13 +1,14 @@
 -- The states of the scanner in a block comment say whether the comment hides an end of C++.
-use Rattle.std.proofs.Common.{◌≡◌, ◌&&◌, ◌||◌, Bool, true, false, not, ℕ, zero, suc, ◌+◌, ◌<◌, ◌≤◌, List, [], ◌∷◌, ◌++◌, length, take, drop, cond, eqb, refl, sym, ◌∙◌, ap, subst, arith, ⊎_elim, append_assoc, append-nil, length-append}
-use Rattle.std.specs.List.{list_all, flat_map}
+use Rattle.std.proofs.Common.{◌≡◌, ◌&&◌, ◌||◌, Bool, true, false, not, ℕ, zero, suc, ◌+◌, ◌<◌, ◌≤◌, List, [], ◌∷◌, ◌++◌, length, get_or, take, drop, cond, eqb, refl, sym, ◌∙◌, ap, subst, arith, ⊎_elim, reverse, Option, Some, append_assoc, append-nil, take_all, length-append}
+use Rattle.std.specs.List.{list_all, flat_map, find}
+use Rattle.std.specs.Option.{option_map_or}
 use Rattle.std.proofs.lemmas.Bool.{cond_both, cond-true, cond-false, and_parts, and_from, or_cases, or_left, or_right, true≢false, false≢true, eqb-true, cases_Bool}
-use Rattle.std.proofs.lemmas.List.{flat_map_more}
+use Rattle.std.proofs.lemmas.List.{flat_map_more, at_drop_more, at_drop_all, take_more, reverse-append}
 use Rattle.std.proofs.lemmas.List.Folds.{list_all-append}
 use Rattle.cx_lexer.specs.declared.seen.Seen.{Seen}
 use Rattle.cx_lexer.specs.declared.seen.Seen.TheVariants.{Other, Star, Backslash, Splice}
 use Rattle.cx_lexer.specs.Bytes.{is_splice_blank, star, slash, newline, backslash}
-use Rattle.cx_lexer.specs.Comment.{splice, HidesEnd}
+use Rattle.cx_lexer.specs.Comment.{splice, HidesEnd, ends_in_backslash}
 use Rattle.cx_lexer.specs.Scan.{hides_from, next_seen, is_spliced}
 
 -- what a state says of the bytes before it
@@ -120,3 +121,36 @@ pub hides_complete : (body : List ℕ) → HidesEnd body → hides_from Other bo
 hides_complete body hidden =
     let rest = flat_map splice hidden.splices ++ slash ∷ hidden.after in
     ap (hides_from Other) hidden.spelled ∙ anywhere (star ∷ rest) (from_star rest (behind_first hidden.splices hidden.after hidden.some hidden.blank)) hidden.before Other
+
+-- a step of the scanner at a place of a comment
+pub hides_at : (seen : Seen) (body : List ℕ) (i : ℕ) → i < length body → hides_from seen (drop i body) ≡ ((is_spliced seen && eqb (get_or body i 0) slash) || hides_from (next_seen seen (get_or body i 0)) (drop (i + 1) body))
+unfolding hides_from
+hides_at seen body i inside = at_drop_more (hides_from seen) body i 0 inside
+
+pub hides_at_end : (seen : Seen) (body : List ℕ) (i : ℕ) → length body ≤ i → hides_from seen (drop i body) ≡ false
+unfolding hides_from
+hides_at_end seen body i over = at_drop_all (hides_from seen) body i over
+
+pub hidden : (body : List ℕ) → hides_from Other body ≡ true → HidesEnd body
+hidden body found = hides_sound Other [] body tt found
+
+-- the last byte of a line's front that isn't a blank
+pub nothing_ends : ends_in_backslash [] ≡ false
+unfolding ends_in_backslash
+nothing_ends = refl
+
+picked : (test : ℕ → Bool) (blank : Bool) (b : ℕ) (o : Option ℕ) → option_map_or test (cond (not blank) (Some b) o) false ≡ cond blank (option_map_or test o false) (test b)
+picked test true b o = refl
+picked test false b o = refl
+
+ends_push : (line : List ℕ) (b : ℕ) → ends_in_backslash (line ++ b ∷ []) ≡ cond (is_splice_blank b) (ends_in_backslash line) (eqb b backslash)
+unfolding ends_in_backslash
+ends_push line b =
+    ap (λ xs. option_map_or (λ c. eqb c backslash) (find (λ c. not (is_splice_blank c)) xs) false) (reverse-append line (b ∷ []))
+    ∙ picked (λ c. eqb c backslash) (is_splice_blank b) b (find (λ c. not (is_splice_blank c)) (reverse line))
+
+pub ends_more : (line : List ℕ) (i : ℕ) → i < length line → ends_in_backslash (take (i + 1) line) ≡ cond (is_splice_blank (get_or line i 0)) (ends_in_backslash (take i line)) (eqb (get_or line i 0) backslash)
+ends_more line i inside = ap ends_in_backslash (take_more line i 0 inside) ∙ ends_push (take i line) (get_or line i 0)
+
+pub ends_whole : (line : List ℕ) (i : ℕ) → length line ≤ i → ends_in_backslash (take i line) ≡ ends_in_backslash line
+ends_whole line i over = ap ends_in_backslash (take_all i line over)

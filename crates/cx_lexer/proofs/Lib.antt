@@ -7,3 +7,5 @@ pub mod Quotes
 pub mod Comments
 pub mod Values
 pub mod Ends
+pub mod Lexemes
+pub mod Pieces

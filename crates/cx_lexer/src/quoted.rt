@@ -71,7 +71,7 @@ fn text_step(rest: &[u8]) -> usize
 }
 
 /// How many bytes the characters between double quotes take, up to what is none.
-fn text_length(rest: &[u8]) -> usize
+pub fn text_length(rest: &[u8]) -> usize
     ensures length { result ≡ text_length rest.now }
     ensures within { result ≤ length rest.now }
 {
