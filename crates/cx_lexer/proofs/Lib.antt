@@ -9,3 +9,4 @@ pub mod Values
 pub mod Ends
 pub mod Lexemes
 pub mod Pieces
+pub mod Unique

@@ -1,7 +1,7 @@
 -- What the scanner finds at a place stands there.
 use Rattle.std.proofs.Common.{◌≡◌, ◌≢◌, ◌&&◌, ◌||◌, Bool, true, false, not, ℕ, zero, suc, ◌+◌, ◌<◌, ◌≤◌, List, [], ◌∷◌, length, get_or, take, drop, cond, eqb, refl, sym, ◌∙◌, ap, subst, arith, ⊎_elim, Some, None, length-take-le}
 use Rattle.std.specs.List.{prefix_len}
-use Rattle.std.proofs.lemmas.Bool.{and_from, or_from, false_from_ne_true, ne_eqb, lt-ltb, le-ltb, not_from_false, true≢false}
+use Rattle.std.proofs.lemmas.Bool.{and_from, or_from, false_from_ne_true, ne_eqb, lt-ltb, le-ltb, not_from_false, true≢false, false≢true, and_right}
 use Rattle.cx_syntax.specs.declared.token.TokenKind.{TokenKind}
 use Rattle.cx_syntax.specs.declared.token.TokenKind.TheVariants.{Name, Word, Number, Char, Text, Punct}
 use Rattle.cx_lexer.specs.declared.fault.LexFault.TheVariants as faults
@@ -160,3 +160,9 @@ none_stands (b ∷ xs) at some blank first none = Begins.no_token (blank, λ kin
 
 pub at_sign : (b : ℕ) → starts_name b ≡ false → is_decimal_digit b ≡ false → b ≢ 39 → b ≢ 34 → sort_of b ≡ 5
 at_sign b letter digit no_quote no_double = at_else b letter digit (ne_eqb b 39 no_quote) (ne_eqb b 34 no_double)
+
+pub block_is_long : (rest : List ℕ) → begins_block_comment rest ≡ true → 2 ≤ length rest
+unfolding begins_block_comment
+block_is_long [] e = absurd (false≢true e)
+block_is_long (a ∷ []) e = absurd (false≢true (sym (and_right (eqb a 47) false refl) ∙ e))
+block_is_long (a ∷ b ∷ rest) e = omega arith

@@ -1,3 +1,7 @@
+ghost use Rattle.std.specs.Prelude.{◌≡◌};
+ghost use Rattle.cx_lexer.specs.declared.fault.LexFault.TheVariants.{OutOfMemory};
+
+use cx_syntax::NoMemory;
 use thiserror::Error;
 
 /// The faults of a text that has no list of tokens, and want of memory. Places count from the text's first byte. The
@@ -22,4 +26,12 @@ pub enum LexFault {
     /// Here begins a name that is too long, with so many bytes.
     #[error("a name of {1} bytes at byte {0}")]
     LongName(u32, u32),
+}
+
+impl From<NoMemory> for LexFault {
+    ghost from_gives = { λ _ e. e ≡ OutOfMemory };
+
+    fn from(_: NoMemory) -> Self {
+        LexFault::OutOfMemory
+    }
 }

@@ -1,12 +1,10 @@
 //! The tokens of a text, after [lex].
 #![tactic(auto)]
 
-ghost use Rattle.std.specs.Prelude.{◌≡◌, ℕ};
-ghost use Rattle.cx_lexer.specs.Spelling.{Spells, IsFaultOf};
-
 mod bytes;
 mod comment;
 mod fault;
+
 mod name;
 mod number;
 mod piece;
@@ -14,5 +12,7 @@ mod punct;
 mod quoted;
 mod seen;
 mod table;
+mod tokens;
 
 pub use fault::LexFault;
+pub use tokens::{Tokens, lex, one_reading, text_of};

@@ -9,7 +9,7 @@ use crate::fault::LexFault;
 use crate::name::{is_word, name_length};
 use crate::number::{is_too_wide, number_length, runs_on};
 use crate::punct::punct_length;
-use crate::quoted::{char_length, text_length};
+use crate::quoted::{char_length, closed_text_length};
 use cx_syntax::TokenKind;
 
 /// What stands at a place of a text.
@@ -154,12 +154,9 @@ fn text(rest: &[u8], at: u32) -> Piece
     requires no_comment { IsFalse (begins_line_comment rest.now || begins_block_comment rest.now) }
     ensures { Stands rest.now at result }
 {
-    let body = &rest[1..];
-    let length = text_length(body);
-    if length < body.len() && body[length] == b'"' {
-        Piece::Token(TokenKind::Text, 2 + length)
-    } else {
-        Piece::Fault(LexFault::OpenText(at))
+    match closed_text_length(&rest[1..]) {
+        Some(length) => Piece::Token(TokenKind::Text, 2 + length),
+        None => Piece::Fault(LexFault::OpenText(at)),
     }
 }
 

@@ -1,6 +1,7 @@
-ghost use Rattle.std.specs.Prelude.{◌≡◌, ◌<◌, ◌≤◌, ℕ, length, take, MatchOption, IsTrue, IsFalse};
-ghost use Rattle.cx_lexer.specs.Quoted.{is_char, is_text, is_escape, is_plain, escapes};
-ghost use Rattle.cx_lexer.specs.Scan.{IsLongest, char_length, text_step, text_length};
+ghost use Rattle.std.specs.Prelude.{◌≡◌, ◌==◌, ◌<◌, ◌≤◌, length, drop, MatchOption, IfSome, IsTrue, IsFalse};
+ghost use Rattle.cx_lexer.specs.Bytes.{begins};
+ghost use Rattle.cx_lexer.specs.Quoted.{is_escape, is_plain, escapes};
+ghost use Rattle.cx_lexer.specs.Scan.{char_length, text_step, text_length};
 
 use crate::bytes::is_printable;
 
@@ -71,7 +72,7 @@ fn text_step(rest: &[u8]) -> usize
 }
 
 /// How many bytes the characters between double quotes take, up to what is none.
-pub fn text_length(rest: &[u8]) -> usize
+fn text_length(rest: &[u8]) -> usize
     ensures length { result ≡ text_length rest.now }
     ensures within { result ≤ length rest.now }
 {
@@ -82,4 +83,28 @@ pub fn text_length(rest: &[u8]) -> usize
         step = text_step(&rest[at..]);
     }
     at
+}
+
+fn begins_with_double_quote(rest: &[u8]) -> bool
+    ensures { result ≡ begins (λ b. b == 34) rest.now }
+{
+    match rest {
+        [byte, ..] => *byte == b'"',
+        [] => false,
+    }
+}
+
+/// How many bytes the characters behind an opening double quote take, if the closing one comes behind them.
+pub fn closed_text_length(rest: &[u8]) -> Option<usize>
+    ensures closed { MatchOption result
+        (IsFalse (begins (λ b. b == 34) (drop (text_length rest.now) rest.now)))
+        (λ n. (n ≡ text_length rest.now) × IsTrue (begins (λ b. b == 34) (drop n rest.now))) }
+    ensures within { IfSome result (λ n. n ≤ length rest.now) }
+{
+    let length = text_length(rest);
+    if begins_with_double_quote(&rest[length..]) {
+        Some(length)
+    } else {
+        None
+    }
 }
