@@ -1,6 +1,6 @@
 -- At each place of a text one thing stands at most: so a text has one list of tokens at most, or one fault.
-use Rattle.std.proofs.Common.{◌≡◌, ◌&&◌, ◌||◌, Bool, true, false, not, ℕ, zero, suc, ◌+◌, ◌<◌, ◌≤◌, List, [], ◌∷◌, ◌++◌, length, take, drop, cond, eqb, ltb, refl, sym, ◌∙◌, ap, subst, arith, ⊎_elim, Option, Some, None, length-take-le, length-drop, add-zero}
-use Rattle.std.specs.Prelude.{option_map}
+use Rattle.std.proofs.Common.{◌≡◌, ◌&&◌, ◌||◌, Bool, true, false, not, ℕ, zero, suc, ◌+◌, ◌<◌, ◌≤◌, List, [], ◌∷◌, ◌++◌, length, take, drop, cond, eqb, ltb, refl, sym, ◌∙◌, ap, subst, arith, ⊎_elim, Option, Some, None, length-take-le, length-drop, inl, inr, Result, Ok, Err}
+use Rattle.std.specs.Prelude.{option_map, ◌⊎◌, IfOk, IfErr, MatchResult}
 use Rattle.std.specs.List.{prefix_len}
 use Rattle.std.proofs.Math.Numerals.{one-add}
 use Rattle.std.proofs.lemmas.List.{drop_all}
@@ -21,8 +21,9 @@ use Rattle.cx_lexer.specs.Quoted.{is_char, is_text, is_plain, closes_text}
 use Rattle.cx_lexer.specs.Punct.{is_punct, puncts}
 use Rattle.cx_lexer.specs.Comment.{begins_line_comment, begins_block_comment, line_length, is_spliced_line, length_to_end, HidesEnd}
 use Rattle.cx_lexer.specs.Lexeme.{is_token, IsLexeme, is_refused, BeginsNoToken}
-use Rattle.cx_lexer.specs.Spelling.{IsGap, Begins, SpellsTo, Spells, IsFaultOf}
+use Rattle.cx_lexer.specs.Spelling.{IsGap, Begins, SpellsTo, Spells, IsFaultOf, InOrder}
 use Rattle.cx_lexer.specs.Scan.{hides_from}
+use Rattle.cx_lexer.specs.Piece.{Stands}
 use Rattle.cx_lexer.proofs.Comments.{hidden, hides_complete}
 use Rattle.cx_lexer.proofs.Lexemes.{blank_begins_none, nothing_is_token, first_sort, sort_of, sort, at_quote, at_double_quote}
 
@@ -433,3 +434,60 @@ not_both text tokens fault spelled other =
     let same = (one_end text (length text) other.place tokens other.tokens spelled (stuck_at_end text) other.spelled (stuck_at_fault text other.place fault other.cause)).0 in
     let empty = drop_all other.place text (omega arith) in
     no_cause_at_end other.place fault (subst (λ rest. Begins rest other.place fault) empty other.cause)
+
+-- what the scanner takes at a place of a text
+module _ (text : List ℕ) (at n : ℕ) (tokens : List Token) where
+  pub gap_fits : Stands (drop at text) at (pieces.Gap n) → at ≤ length text → (0 < n) × (at + n ≤ length text)
+  unfolding Stands
+  gap_fits stands inside = let takes = gap_takes stands in (takes.0, omega (arith, length-drop at text))
+
+  pub gap_spelled : SpellsTo text at tokens → Stands (drop at text) at (pieces.Gap n) → SpellsTo text (at + n) tokens
+  unfolding Stands
+  gap_spelled spelled stands = SpellsTo.gap spelled stands
+
+  pub token_fits : (kind : TokenKind) → Stands (drop at text) at (pieces.Token kind n) → at ≤ length text → (0 < n) × (at + n ≤ length text)
+  unfolding Stands
+  token_fits kind stands inside =
+      let takes = lexeme_takes kind (drop at text) n stands.0 in
+      let within = (stands.0).within in
+      (takes, omega (arith, length-drop at text))
+
+  pub token_spelled : (kind : TokenKind) → SpellsTo text at tokens → Stands (drop at text) at (pieces.Token kind n) → SpellsTo text (at + n) (tokens ++ record { kind = kind; start = at; end = at + n } ∷ [])
+  unfolding Stands
+  token_spelled kind spelled stands = SpellsTo.token spelled stands.0 stands.1
+
+  pub fault_told : (fault : LexFault) → SpellsTo text at tokens → Stands (drop at text) at (pieces.Fault fault) → IsFaultOf text fault
+  unfolding Stands
+  fault_told fault spelled stands = record { place = at; tokens = tokens; spelled = spelled; cause = stands }
+
+-- the answers that a text leaves
+abbrev Told : List ℕ → LexFault → Type 0
+Told text fault = (fault ≡ faults.OutOfMemory) ⊎ IsFaultOf text fault
+
+pub only_tokens : (text : List ℕ) (answer : Result (List Token) LexFault) → IfOk answer (λ tokens. Spells text tokens) → IfErr answer (Told text) → (tokens : List Token) → Spells text tokens → MatchResult answer (λ told. told ≡ tokens) (λ fault. fault ≡ faults.OutOfMemory)
+only_tokens text (Ok told) spelled other tokens spells = one_list text told tokens spelled spells
+only_tokens text (Err fault) spelled other tokens spells = ⊎_elim (λ e. e) (λ is. absurd (not_both text tokens fault spells is)) other
+
+pub only_fault : (text : List ℕ) (answer : Result (List Token) LexFault) → IfOk answer (λ tokens. Spells text tokens) → IfErr answer (Told text) → (fault : LexFault) → IsFaultOf text fault → MatchResult answer (λ _. ⊥) (λ told. (told ≡ faults.OutOfMemory) ⊎ (told ≡ fault))
+only_fault text (Ok told) spelled other fault is = not_both text told fault spelled is
+only_fault text (Err told) spelled other fault is = ⊎_elim (λ e. inl e) (λ too. inr (one_fault text told fault too is)) other
+
+-- tokens come in order
+order_more : (from : ℕ) (tokens : List Token) (to more : ℕ) → to ≤ more → InOrder from tokens to → InOrder from tokens more
+order_more from [] to more above order = omega arith
+order_more from (t ∷ tokens) to more above order = (order.0, order.1, order_more t.end tokens to more above order.2)
+
+order_push : (from : ℕ) (tokens : List Token) (kind : TokenKind) (to end : ℕ) → to < end → InOrder from tokens to → InOrder from (tokens ++ token_of kind to end ∷ []) end
+order_push from [] kind to end above order = (order, above, omega arith)
+order_push from (t ∷ tokens) kind to end above order = (order.0, order.1, order_push t.end tokens kind to end above order.2)
+
+in_order : (text : List ℕ) (p : ℕ) (tokens : List Token) → SpellsTo text p tokens → InOrder 0 tokens p
+in_order text p tokens SpellsTo.start = omega arith
+in_order text p tokens (SpellsTo.gap {p = q} {n = n} {tokens = us} spelled one) = order_more 0 us q (q + n) (omega arith) (in_order text q us spelled)
+in_order text p tokens (SpellsTo.token {p = q} {n = n} {tokens = us} {kind = kind} spelled one good) =
+    let takes = lexeme_takes kind (drop q text) n one in
+    order_push 0 us kind q (q + n) (omega arith) (in_order text q us spelled)
+
+pub told_in_order : (text : List ℕ) (answer : Result (List Token) LexFault) → IfOk answer (λ tokens. Spells text tokens) → IfOk answer (λ tokens. InOrder 0 tokens (length text))
+told_in_order text (Ok told) spelled = in_order text (length text) told spelled
+told_in_order text (Err fault) spelled = tt

@@ -1,5 +1,5 @@
 -- Which list of tokens spells a text, and which lexical fault a text has: a relation on whole texts, after [lex.phases].
-use Rattle.std.specs.Prelude.{◌≡◌, ◌==◌, ◌+◌, ◌<◌, ℕ, List, [], ◌∷◌, ◌++◌, Some, None, IsTrue, IsFalse, length, take, drop}
+use Rattle.std.specs.Prelude.{◌≡◌, ◌==◌, ◌+◌, ◌<◌, ◌≤◌, ℕ, List, [], ◌∷◌, ◌++◌, Some, None, IsTrue, IsFalse, length, take, drop}
 use Rattle.cx_syntax.specs.declared.token.Token.{Token}
 use Rattle.cx_syntax.specs.declared.token.TokenKind.{TokenKind}
 use Rattle.cx_syntax.specs.declared.token.TokenKind.TheVariants.{Name, Number}
@@ -46,3 +46,8 @@ pub record IsFaultOf (text : List ℕ) (fault : LexFault) : Type 0 where
   pub tokens : List Token
   pub spelled : SpellsTo text place tokens
   pub cause : Begins (drop place text) place fault
+
+-- From a place on the tokens come one behind the other, none of them empty, up to another place.
+abbrev pub InOrder : ℕ → List Token → ℕ → Type 0
+InOrder from [] to = from ≤ to
+InOrder from (t ∷ tokens) to = (from ≤ t.start) × (t.start < t.end) × InOrder t.end tokens to

@@ -1,6 +1,6 @@
 use Rattle.std.proofs.Common.{◌≤◌, ◌-◌, length}
 use Rattle.cx_lexer.specs.Spelling.{SpellsTo}
-use Rattle.cx_lexer.proofs.tokens.lex.Given as goal
+use Rattle.cx_lexer.proofs.tokens.scan.Given as goal
 
 abbrev pub invariant-loop-at : goal.invariant-loop-at
 invariant-loop-at l = record { within : l.at ≤ length l.text; spelled : SpellsTo l.text l.at l.tokens }
