@@ -30,8 +30,8 @@ module _ (b : ℕ) (before : List ℕ) where
   behind_star x lines blank spelled =
       cond_both (eqb b star) Star (cond (eqb b backslash) Backslash Other) (λ s. Stood s (before ++ b ∷ [])) star_stands
       (λ _. cond_both (eqb b backslash) Backslash Other (λ s. Stood s (before ++ b ∷ []))
-        (λ e. (x, lines, [], blank, refl, ap (λ p. p ++ b ∷ []) spelled ∙ (append_assoc x (star ∷ flat_map splice lines) (b ∷ []) ∙ ap (λ c. x ++ star ∷ (flat_map splice lines ++ c ∷ [])) (eqb-true b backslash e))))
-        (λ _. tt))
+      (λ e. (x, lines, [], blank, refl, ap (λ p. p ++ b ∷ []) spelled ∙ (append_assoc x (star ∷ flat_map splice lines) (b ∷ []) ∙ ap (λ c. x ++ star ∷ (flat_map splice lines ++ c ∷ [])) (eqb-true b backslash e))))
+      (λ _. tt))
 
   -- in a splice
   in_splice : Stood Backslash before → Stood (next_seen Backslash b) (before ++ b ∷ [])
@@ -43,9 +43,14 @@ module _ (b : ℕ) (before : List ℕ) where
       cond_both (is_splice_blank b) Backslash (cond (eqb b newline) Splice (cond (eqb b star) Star Other)) (λ s. Stood s (before ++ b ∷ []))
       (λ e. (x, lines, blanks ++ b ∷ [], stood.3, list_all-append is_splice_blank blanks (b ∷ []) ∙ and_from _ _ stood.4 (and_from _ _ e refl), spelled))
       (λ _. cond_both (eqb b newline) Splice (cond (eqb b star) Star Other) (λ s. Stood s (before ++ b ∷ []))
-        (λ e. (x, lines ++ blanks ∷ [], omega (arith, length-append lines (blanks ∷ [])), list_all-append (list_all is_splice_blank) lines (blanks ∷ []) ∙ and_from _ _ stood.3 (and_from _ _ stood.4 refl),
-          spelled ∙ (ap (λ c. x ++ star ∷ (flat_map splice lines ++ backslash ∷ (blanks ++ c ∷ []))) (eqb-true b newline e) ∙ ap (λ p. x ++ star ∷ p) (flat_map_more splice [] lines blanks))))
-        (λ _. star_or_other))
+      (λ e. (
+        x,
+        lines ++ blanks ∷ [],
+        omega (arith, length-append lines (blanks ∷ [])),
+        list_all-append (list_all is_splice_blank) lines (blanks ∷ []) ∙ and_from _ _ stood.3 (and_from _ _ stood.4 refl),
+        spelled ∙ (ap (λ c. x ++ star ∷ (flat_map splice lines ++ backslash ∷ (blanks ++ c ∷ []))) (eqb-true b newline e) ∙ ap (λ p. x ++ star ∷ p) (flat_map_more splice [] lines blanks)),
+      ))
+      (λ _. star_or_other))
 
   -- a step of the scanner keeps what its state says
   stands_on : (seen : Seen) → Stood seen before → Stood (next_seen seen b) (before ++ b ∷ [])

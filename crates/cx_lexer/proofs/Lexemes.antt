@@ -112,9 +112,9 @@ unfolding is_blank starts_name is_decimal_digit
 blank_sort b blank =
     ⊎_elim
     (λ e. ⊎_elim
-      (λ f. ⊎_elim (λ g. let is : b ≡ 32 = eqb-true b 32 g in rw is refl) (λ g. let is : b ≡ 9 = eqb-true b 9 g in rw is refl) (or_cases _ _ f))
-      (λ f. let is : b ≡ 13 = eqb-true b 13 f in rw is refl)
-      (or_cases _ _ e))
+    (λ f. ⊎_elim (λ g. let is : b ≡ 32 = eqb-true b 32 g in rw is refl) (λ g. let is : b ≡ 9 = eqb-true b 9 g in rw is refl) (or_cases _ _ f))
+    (λ f. let is : b ≡ 13 = eqb-true b 13 f in rw is refl)
+    (or_cases _ _ e))
     (λ e. let is : b ≡ 10 = eqb-true b 10 e in rw is refl)
     (or_cases _ _ blank)
 
@@ -191,4 +191,4 @@ lexeme kind test covers b xs n same longest is_one no_comment = record {
     none : (m : ℕ) (other : TokenKind) → n < m → m ≤ length (b ∷ xs) → is_token other (take m (b ∷ xs)) ≡ false
     none zero other above within = absurd (omega arith)
     none (suc m) other above within = false_from_ne_true _ (λ e.
-      true≢false (sym e ∙ covers other (b ∷ take m xs) (sym (first_sort other b (take m xs) e) ∙ same) (longest.longest (suc m) above within)))
+        true≢false (sym e ∙ covers other (b ∷ take m xs) (sym (first_sort other b (take m xs) e) ∙ same) (longest.longest (suc m) above within)))

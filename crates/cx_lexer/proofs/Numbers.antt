@@ -91,10 +91,10 @@ tail_passes base (a ∷ b ∷ rest) =
     cond_both (is_digit base a) (suc (tail_length base (b ∷ rest))) (cond (eqb a quote) (cond (is_digit base b) (suc (suc (tail_length base rest))) 0) (suffix_length (a ∷ b ∷ rest))) P
     (λ e. after_digit base a e (take (tail_length base (b ∷ rest)) (b ∷ rest)) ∙ tail_passes base (b ∷ rest))
     (λ e. cond_both (eqb a quote) (cond (is_digit base b) (suc (suc (tail_length base rest))) 0) (suffix_length (a ∷ b ∷ rest)) P
-      (λ f. cond_both (is_digit base b) (suc (suc (tail_length base rest))) 0 P
-        (λ g. after_quote base a e f b (take (tail_length base rest) rest) ∙ and_from _ _ g (tail_passes base rest))
-        (λ g. empty_follows base))
-      (λ f. at_other base a e f (b ∷ rest) (suffix_length (a ∷ b ∷ rest)) ∙ suffix_passes (a ∷ b ∷ rest)))
+    (λ f. cond_both (is_digit base b) (suc (suc (tail_length base rest))) 0 P
+    (λ g. after_quote base a e f b (take (tail_length base rest) rest) ∙ and_from _ _ g (tail_passes base rest))
+    (λ g. empty_follows base))
+    (λ f. at_other base a e f (b ∷ rest) (suffix_length (a ∷ b ∷ rest)) ∙ suffix_passes (a ∷ b ∷ rest)))
 
 pub tail_longest : (base : ℕ) (xs : List ℕ) (m : ℕ) → tail_length base xs < m → m ≤ length xs → follows_digit base (take m xs) ≡ false
 unfolding tail_length
@@ -110,18 +110,18 @@ tail_longest base (a ∷ b ∷ rest) (suc zero) above within =
     cond_both (is_digit base a) (suc (tail_length base (b ∷ rest))) (cond (eqb a quote) (cond (is_digit base b) (suc (suc (tail_length base rest))) 0) (suffix_length (a ∷ b ∷ rest))) P
     (λ e h. absurd (omega arith))
     (λ e. cond_both (eqb a quote) (cond (is_digit base b) (suc (suc (tail_length base rest))) 0) (suffix_length (a ∷ b ∷ rest)) P
-      (λ f h. quote_alone base a e f)
-      (λ f h. at_other base a e f (b ∷ rest) 1 ∙ suffix_longest (a ∷ b ∷ rest) 1 h within))
+    (λ f h. quote_alone base a e f)
+    (λ f h. at_other base a e f (b ∷ rest) 1 ∙ suffix_longest (a ∷ b ∷ rest) 1 h within))
     above
 tail_longest base (a ∷ b ∷ rest) (suc (suc m)) above within =
     let P : ℕ → Type 0 = λ n. n < suc (suc m) → follows_digit base (a ∷ b ∷ take m rest) ≡ false in
     cond_both (is_digit base a) (suc (tail_length base (b ∷ rest))) (cond (eqb a quote) (cond (is_digit base b) (suc (suc (tail_length base rest))) 0) (suffix_length (a ∷ b ∷ rest))) P
     (λ e h. after_digit base a e (b ∷ take m rest) ∙ tail_longest base (b ∷ rest) (suc m) (omega arith) (omega arith))
     (λ e. cond_both (eqb a quote) (cond (is_digit base b) (suc (suc (tail_length base rest))) 0) (suffix_length (a ∷ b ∷ rest)) P
-      (λ f. cond_both (is_digit base b) (suc (suc (tail_length base rest))) 0 P
-        (λ g h. after_quote base a e f b (take m rest) ∙ (ap (λ t. t && follows_digit base (take m rest)) g ∙ tail_longest base rest m (omega arith) (omega arith)))
-        (λ g h. after_quote base a e f b (take m rest) ∙ and_left _ _ g))
-      (λ f h. at_other base a e f (b ∷ rest) (suc (suc m)) ∙ suffix_longest (a ∷ b ∷ rest) (suc (suc m)) h within))
+    (λ f. cond_both (is_digit base b) (suc (suc (tail_length base rest))) 0 P
+    (λ g h. after_quote base a e f b (take m rest) ∙ (ap (λ t. t && follows_digit base (take m rest)) g ∙ tail_longest base rest m (omega arith) (omega arith)))
+    (λ g h. after_quote base a e f b (take m rest) ∙ and_left _ _ g))
+    (λ f h. at_other base a e f (b ∷ rest) (suc (suc m)) ∙ suffix_longest (a ∷ b ∷ rest) (suc (suc m)) h within))
     above
 
 -- a rest that begins with a prefix and a digit
@@ -180,8 +180,8 @@ zero_within xs =
     cond_both (has_prefix 120 16 xs) (suc (suc (tail_length 16 (drop 2 xs)))) (cond (has_prefix 98 2 xs) (suc (suc (tail_length 2 (drop 2 xs)))) (tail_length 8 xs)) P
     (λ e. let two = prefix_needs_two _ _ xs e in omega (arith, tail_within 16 (drop 2 xs), length-drop 2 xs))
     (λ _. cond_both (has_prefix 98 2 xs) (suc (suc (tail_length 2 (drop 2 xs)))) (tail_length 8 xs) P
-      (λ e. let two = prefix_needs_two _ _ xs e in omega (arith, tail_within 2 (drop 2 xs), length-drop 2 xs))
-      (λ _. tail_within 8 xs))
+    (λ e. let two = prefix_needs_two _ _ xs e in omega (arith, tail_within 2 (drop 2 xs), length-drop 2 xs))
+    (λ _. tail_within 8 xs))
 
 plain_passes : (xs : List ℕ) → zero_tail (take (tail_length 8 xs) xs) ≡ true
 plain_passes xs = or_left _ _ (or_left _ _ (tail_passes 8 xs))
@@ -195,8 +195,8 @@ zero_passes (b ∷ d ∷ rest) =
     cond_both (has_prefix 120 16 (b ∷ d ∷ rest)) (suc (suc (tail_length 16 rest))) (cond (has_prefix 98 2 (b ∷ d ∷ rest)) (suc (suc (tail_length 2 rest))) (tail_length 8 (b ∷ d ∷ rest))) P
     (λ e. or_left _ _ (or_right _ _ (and_from _ _ (sym (prefix_at 120 16 b d rest) ∙ e) (tail_passes 16 rest))))
     (λ _. cond_both (has_prefix 98 2 (b ∷ d ∷ rest)) (suc (suc (tail_length 2 rest))) (tail_length 8 (b ∷ d ∷ rest)) P
-      (λ e. or_right _ _ (and_from _ _ (sym (prefix_at 98 2 b d rest) ∙ e) (tail_passes 2 rest)))
-      (λ _. plain_passes (b ∷ d ∷ rest)))
+    (λ e. or_right _ _ (and_from _ _ (sym (prefix_at 98 2 b d rest) ∙ e) (tail_passes 2 rest)))
+    (λ _. plain_passes (b ∷ d ∷ rest)))
 
 pub zero_longest : (xs : List ℕ) (m : ℕ) → zero_tail_length xs < m → m ≤ length xs → zero_tail (take m xs) ≡ false
 unfolding zero_tail_length has_prefix
@@ -209,21 +209,21 @@ zero_longest (b ∷ d ∷ rest) (suc zero) above within =
     cond_both (has_prefix 120 16 (b ∷ d ∷ rest)) (suc (suc (tail_length 16 rest))) (cond (has_prefix 98 2 (b ∷ d ∷ rest)) (suc (suc (tail_length 2 rest))) (tail_length 8 (b ∷ d ∷ rest))) P
     (λ e h. absurd (omega arith))
     (λ _. cond_both (has_prefix 98 2 (b ∷ d ∷ rest)) (suc (suc (tail_length 2 rest))) (tail_length 8 (b ∷ d ∷ rest)) P
-      (λ e h. absurd (omega arith))
-      (λ _ h. or_false _ _ (or_false _ _ (tail_longest 8 (b ∷ d ∷ rest) 1 h within) refl) refl))
+    (λ e h. absurd (omega arith))
+    (λ _ h. or_false _ _ (or_false _ _ (tail_longest 8 (b ∷ d ∷ rest) 1 h within) refl) refl))
     above
 zero_longest (b ∷ d ∷ rest) (suc (suc m)) above within =
     let P : ℕ → Type 0 = λ n. n < suc (suc m) → zero_tail (b ∷ d ∷ take m rest) ≡ false in
     cond_both (has_prefix 120 16 (b ∷ d ∷ rest)) (suc (suc (tail_length 16 rest))) (cond (has_prefix 98 2 (b ∷ d ∷ rest)) (suc (suc (tail_length 2 rest))) (tail_length 8 (b ∷ d ∷ rest))) P
     (λ e h.
-      let letter = (and_parts _ _ (sym (prefix_at 120 16 b d rest) ∙ e)).0 in
-      or_false _ _ (or_false _ _ (x_ends b (d ∷ take m rest) letter) (and_right _ _ (tail_longest 16 rest m (omega arith) (omega arith)))) (and_left _ _ (and_left _ _ (letters_apart b letter))))
+    let letter = (and_parts _ _ (sym (prefix_at 120 16 b d rest) ∙ e)).0 in
+    or_false _ _ (or_false _ _ (x_ends b (d ∷ take m rest) letter) (and_right _ _ (tail_longest 16 rest m (omega arith) (omega arith)))) (and_left _ _ (and_left _ _ (letters_apart b letter))))
     (λ e. let no_x = sym (prefix_at 120 16 b d rest) ∙ e in
-      cond_both (has_prefix 98 2 (b ∷ d ∷ rest)) (suc (suc (tail_length 2 rest))) (tail_length 8 (b ∷ d ∷ rest)) P
-      (λ f h.
-        let letter = (and_parts _ _ (sym (prefix_at 98 2 b d rest) ∙ f)).0 in
-        or_false _ _ (or_false _ _ (b_ends b (d ∷ take m rest) letter) (and_left _ _ no_x)) (and_right _ _ (tail_longest 2 rest m (omega arith) (omega arith))))
-      (λ f h. or_false _ _ (or_false _ _ (tail_longest 8 (b ∷ d ∷ rest) (suc (suc m)) h within) (and_left _ _ no_x)) (and_left _ _ (sym (prefix_at 98 2 b d rest) ∙ f))))
+    cond_both (has_prefix 98 2 (b ∷ d ∷ rest)) (suc (suc (tail_length 2 rest))) (tail_length 8 (b ∷ d ∷ rest)) P
+    (λ f h.
+    let letter = (and_parts _ _ (sym (prefix_at 98 2 b d rest) ∙ f)).0 in
+    or_false _ _ (or_false _ _ (b_ends b (d ∷ take m rest) letter) (and_left _ _ no_x)) (and_right _ _ (tail_longest 2 rest m (omega arith) (omega arith))))
+    (λ f h. or_false _ _ (or_false _ _ (tail_longest 8 (b ∷ d ∷ rest) (suc (suc m)) h within) (and_left _ _ no_x)) (and_left _ _ (sym (prefix_at 98 2 b d rest) ∙ f))))
     above
 
 -- the scanner's number is the longest
@@ -249,8 +249,8 @@ digit_within base xs =
     cond_both (leb 1 (length xs) && is_digit base (get_or xs 0 0)) 1 (cond (leb 2 (length xs) && eqb (get_or xs 0 0) quote && is_digit base (get_or xs 1 0)) 2 0) (λ n. n ≤ length xs)
     (λ e. leb-true 1 _ (and_parts _ _ e).0)
     (λ _. cond_both (leb 2 (length xs) && eqb (get_or xs 0 0) quote && is_digit base (get_or xs 1 0)) 2 0 (λ n. n ≤ length xs)
-      (λ e. leb-true 2 _ (and_parts _ _ (and_parts _ _ e).0).0)
-      (λ _. omega arith))
+    (λ e. leb-true 2 _ (and_parts _ _ (and_parts _ _ e).0).0)
+    (λ _. omega arith))
 
 nothing_behind : suffix_length [] ≡ 0
 unfolding suffix_length
@@ -298,10 +298,10 @@ module _ (base : ℕ) where
   tail_steps (a ∷ b ∷ xs) =
       subst (Steps (a ∷ b ∷ xs)) (sym (digit_before a b xs))
       (cond_both (is_digit base a) 1 (cond (eqb a quote && is_digit base b) 2 0) (Steps (a ∷ b ∷ xs))
-        (λ e _. cond-true _ _ _ e ∙ omega arith)
-        (λ e. cond_both (eqb a quote && is_digit base b) 2 0 (Steps (a ∷ b ∷ xs))
-          (λ f _. let parts = and_parts (eqb a quote) (is_digit base b) f in cond-false _ _ _ e ∙ (cond-true _ _ _ parts.0 ∙ (cond-true _ _ _ parts.1 ∙ omega arith)))
-          (λ _ h. absurd (omega arith))))
+      (λ e _. cond-true _ _ _ e ∙ omega arith)
+      (λ e. cond_both (eqb a quote && is_digit base b) 2 0 (Steps (a ∷ b ∷ xs))
+      (λ f _. let parts = and_parts (eqb a quote) (is_digit base b) f in cond-false _ _ _ e ∙ (cond-true _ _ _ parts.0 ∙ (cond-true _ _ _ parts.1 ∙ omega arith)))
+      (λ _ h. absurd (omega arith))))
 
   -- where no digit comes
   abbrev Stops : List ℕ → ℕ → Type 0
@@ -316,10 +316,10 @@ module _ (base : ℕ) where
   tail_stops (a ∷ b ∷ xs) =
       subst (Stops (a ∷ b ∷ xs)) (sym (digit_before a b xs))
       (cond_both (is_digit base a) 1 (cond (eqb a quote && is_digit base b) 2 0) (Stops (a ∷ b ∷ xs))
-        (λ _ h. absurd (omega arith))
-        (λ e. cond_both (eqb a quote && is_digit base b) 2 0 (Stops (a ∷ b ∷ xs))
-          (λ _ h. absurd (omega arith))
-          (λ f _. cond-false _ _ _ e ∙ at_quote a b xs f)))
+      (λ _ h. absurd (omega arith))
+      (λ e. cond_both (eqb a quote && is_digit base b) 2 0 (Stops (a ∷ b ∷ xs))
+      (λ _ h. absurd (omega arith))
+      (λ f _. cond-false _ _ _ e ∙ at_quote a b xs f)))
 
 -- one more digit, or the end of them, at a place of a rest
 pub tail_more : (base : ℕ) (xs : List ℕ) (at step : ℕ) → step ≡ digit_length base (drop at xs) → 0 < step → at + tail_length base (drop at xs) ≡ tail_length base xs → (at + step) + tail_length base (drop (at + step) xs) ≡ tail_length base xs

@@ -109,10 +109,12 @@ pub char_stands : (rest : List ℕ) (at n : ℕ) → 0 < length rest → get_or 
 unfolding Stands is_refused
 char_stands [] at n some first no_comment is found = absurd (omega arith)
 char_stands (b ∷ xs) at n some first no_comment is found =
-    let P : ℕ → Type 0 = λ c. NoComment (c ∷ xs) → n ≡ char_length (c ∷ xs) → IsLexeme Char (c ∷ xs) n in
-    (subst P (sym first) (λ none same.
-      let longest = char_longest xs (omega arith) in
-      subst (IsLexeme Char (quote ∷ xs)) (sym same) (lexeme Char is_char char_covers quote xs _ (at_quote quote refl) longest longest.passes none)) no_comment is, refl)
+    let P : ℕ → Type 0 = λ c. NoComment (c ∷ xs) → n ≡ char_length (c ∷ xs) → IsLexeme Char (c ∷ xs) n in (
+      subst P (sym first) (λ none same.
+          let longest = char_longest xs (omega arith) in
+          subst (IsLexeme Char (quote ∷ xs)) (sym same) (lexeme Char is_char char_covers quote xs _ (at_quote quote refl) longest longest.passes none)) no_comment is,
+      refl,
+    )
 
 pub open_char_stands : (rest : List ℕ) (at : ℕ) → 0 < length rest → get_or rest 0 0 ≡ 39 → char_length rest ≡ 0 → Stands rest at (pieces.Fault (faults.OpenText at))
 unfolding Stands
@@ -125,10 +127,12 @@ text_stands [] at n some first no_comment is ends = absurd (omega arith)
 text_stands (b ∷ xs) at n some first no_comment is ends =
     let P : ℕ → Type 0 = λ c. NoComment (c ∷ xs) → IsLexeme Text (c ∷ xs) (2 + n) in
     let ends_there = ap (λ k. begins (λ c. eqb c double_quote) (drop k xs)) (sym is) ∙ ends in
-    let length_is : suc (suc (text_length xs)) ≡ 2 + n = omega arith in
-    (subst P (sym first) (λ none.
-      let longest = text_longest xs ends_there in
-      subst (IsLexeme Text (double_quote ∷ xs)) length_is (lexeme Text is_text text_covers double_quote xs _ (at_double_quote double_quote refl) longest longest.passes none)) no_comment, refl)
+    let length_is : suc (suc (text_length xs)) ≡ 2 + n = omega arith in (
+      subst P (sym first) (λ none.
+          let longest = text_longest xs ends_there in
+          subst (IsLexeme Text (double_quote ∷ xs)) length_is (lexeme Text is_text text_covers double_quote xs _ (at_double_quote double_quote refl) longest longest.passes none)) no_comment,
+      refl,
+    )
 
 pub open_text_stands : (rest : List ℕ) (at n : ℕ) → 0 < length rest → get_or rest 0 0 ≡ 34 → n ≡ text_length (drop 1 rest) → begins (λ b. eqb b double_quote) (drop n (drop 1 rest)) ≡ false → Stands rest at (pieces.Fault (faults.OpenText at))
 unfolding Stands

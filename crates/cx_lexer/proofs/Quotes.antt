@@ -89,20 +89,20 @@ pub text_closes : (xs : List ℕ) → Closes xs (text_length xs)
 text_closes [] = λ ends. absurd (none_begins _ ends)
 text_closes (a ∷ []) =
     elim (text_byte a) as (λ _. Closes (a ∷ []) (text_length (a ∷ []))) [
-      closing e ↦ subst (Closes (a ∷ [])) (sym (none_at_end a [] (or_left _ _ e))) (λ _. at_closing a e)
-    | line_end e f ↦ subst (Closes (a ∷ [])) (sym (none_at_end a [] (or_right _ _ f))) (λ h. absurd (true≢false (sym h ∙ e)))
-    | slant e f g ↦ subst (Closes (a ∷ [])) (sym (slant_alone a (or_false _ _ e f) g)) (λ h. absurd (true≢false (sym h ∙ e)))
-    | plain e f g ↦ subst (Closes (a ∷ [])) (sym (plain_more a [] (or_false _ _ e f) g)) (λ h. at_plain a _ e f g ∙ text_closes [] h)
+      | closing e ↦ subst (Closes (a ∷ [])) (sym (none_at_end a [] (or_left _ _ e))) (λ _. at_closing a e)
+      | line_end e f ↦ subst (Closes (a ∷ [])) (sym (none_at_end a [] (or_right _ _ f))) (λ h. absurd (true≢false (sym h ∙ e)))
+      | slant e f g ↦ subst (Closes (a ∷ [])) (sym (slant_alone a (or_false _ _ e f) g)) (λ h. absurd (true≢false (sym h ∙ e)))
+      | plain e f g ↦ subst (Closes (a ∷ [])) (sym (plain_more a [] (or_false _ _ e f) g)) (λ h. at_plain a _ e f g ∙ text_closes [] h)
     ]
 text_closes (a ∷ b ∷ rest) =
     elim (text_byte a) as (λ _. Closes (a ∷ b ∷ rest) (text_length (a ∷ b ∷ rest))) [
-      closing e ↦ subst (Closes (a ∷ b ∷ rest)) (sym (none_at_end a (b ∷ rest) (or_left _ _ e))) (λ _. at_closing a e)
-    | line_end e f ↦ subst (Closes (a ∷ b ∷ rest)) (sym (none_at_end a (b ∷ rest) (or_right _ _ f))) (λ h. absurd (true≢false (sym h ∙ e)))
-    | slant e f g ↦ subst (Closes (a ∷ b ∷ rest)) (sym (slant_more a b rest (or_false _ _ e f) g))
-        (cond_both (escapes (b ∷ rest)) (suc (suc (text_length rest))) 0 (Closes (a ∷ b ∷ rest))
+      | closing e ↦ subst (Closes (a ∷ b ∷ rest)) (sym (none_at_end a (b ∷ rest) (or_left _ _ e))) (λ _. at_closing a e)
+      | line_end e f ↦ subst (Closes (a ∷ b ∷ rest)) (sym (none_at_end a (b ∷ rest) (or_right _ _ f))) (λ h. absurd (true≢false (sym h ∙ e)))
+      | slant e f g ↦ subst (Closes (a ∷ b ∷ rest)) (sym (slant_more a b rest (or_false _ _ e f) g))
+          (cond_both (escapes (b ∷ rest)) (suc (suc (text_length rest))) 0 (Closes (a ∷ b ∷ rest))
           (λ k h. at_slant a b _ e f g ∙ and_from _ _ (escapes_within b rest (suc (text_length rest)) (omega arith) ∙ k) (text_closes rest h))
           (λ k h. absurd (true≢false (sym h ∙ e))))
-    | plain e f g ↦ subst (Closes (a ∷ b ∷ rest)) (sym (plain_more a (b ∷ rest) (or_false _ _ e f) g)) (λ h. at_plain a _ e f g ∙ text_closes (b ∷ rest) h)
+      | plain e f g ↦ subst (Closes (a ∷ b ∷ rest)) (sym (plain_more a (b ∷ rest) (or_false _ _ e f) g)) (λ h. at_plain a _ e f g ∙ text_closes (b ∷ rest) h)
     ]
 
 abbrev ClosesOnce : List ℕ → ℕ → ℕ → Type 0
@@ -118,10 +118,10 @@ text_closes_once xs zero within = λ closes. absurd (true≢false (sym closes �
 text_closes_once [] (suc m) within = absurd (omega arith)
 text_closes_once (a ∷ []) (suc m) within =
     elim (text_byte a) as (λ _. ClosesOnce (a ∷ []) (suc m) (text_length (a ∷ []))) [
-      closing e ↦ subst (ClosesOnce (a ∷ []) (suc m)) (sym (none_at_end a [] (or_left _ _ e))) (λ _. (omega arith, e))
-    | line_end e f ↦ λ h. absurd (true≢false (sym h ∙ at_line_end a _ e f))
-    | slant e f g ↦ λ h. absurd (true≢false (sym h ∙ only_one m e))
-    | plain e f g ↦ λ h. absurd (true≢false (sym h ∙ only_one m e))
+      | closing e ↦ subst (ClosesOnce (a ∷ []) (suc m)) (sym (none_at_end a [] (or_left _ _ e))) (λ _. (omega arith, e))
+      | line_end e f ↦ λ h. absurd (true≢false (sym h ∙ at_line_end a _ e f))
+      | slant e f g ↦ λ h. absurd (true≢false (sym h ∙ only_one m e))
+      | plain e f g ↦ λ h. absurd (true≢false (sym h ∙ only_one m e))
     ]
   where
     only_one : (k : ℕ) → eqb a double_quote ≡ false → closes_text (a ∷ take k []) ≡ false
@@ -129,23 +129,23 @@ text_closes_once (a ∷ []) (suc m) within =
     only_one (suc k) e = alone a e
 text_closes_once (a ∷ b ∷ rest) (suc zero) within =
     elim (text_byte a) as (λ _. ClosesOnce (a ∷ b ∷ rest) 1 (text_length (a ∷ b ∷ rest))) [
-      closing e ↦ subst (ClosesOnce (a ∷ b ∷ rest) 1) (sym (none_at_end a (b ∷ rest) (or_left _ _ e))) (λ _. (refl, e))
-    | line_end e f ↦ λ h. absurd (true≢false (sym h ∙ alone a e))
-    | slant e f g ↦ λ h. absurd (true≢false (sym h ∙ alone a e))
-    | plain e f g ↦ λ h. absurd (true≢false (sym h ∙ alone a e))
+      | closing e ↦ subst (ClosesOnce (a ∷ b ∷ rest) 1) (sym (none_at_end a (b ∷ rest) (or_left _ _ e))) (λ _. (refl, e))
+      | line_end e f ↦ λ h. absurd (true≢false (sym h ∙ alone a e))
+      | slant e f g ↦ λ h. absurd (true≢false (sym h ∙ alone a e))
+      | plain e f g ↦ λ h. absurd (true≢false (sym h ∙ alone a e))
     ]
 text_closes_once (a ∷ b ∷ rest) (suc (suc m)) within =
     elim (text_byte a) as (λ _. ClosesOnce (a ∷ b ∷ rest) (suc (suc m)) (text_length (a ∷ b ∷ rest))) [
-      closing e ↦ λ h. absurd (suc_not_zero (closing_alone a _ e h))
-    | line_end e f ↦ λ h. absurd (true≢false (sym h ∙ at_line_end a _ e f))
-    | slant e f g ↦ λ h.
-        let parts = and_parts _ _ (sym (at_slant a b (take m rest) e f g) ∙ h) in
-        let once = text_closes_once rest m (omega arith) parts.1 in
-        let long : text_length (a ∷ b ∷ rest) ≡ suc (suc (text_length rest)) = slant_more a b rest (or_false _ _ e f) g ∙ cond-true _ _ _ (sym (escapes_within b rest m (omega arith)) ∙ parts.0) in
-        rw long (ap (λ k. suc (suc k)) once.0, once.1)
-    | plain e f g ↦ λ h.
-        let once = text_closes_once (b ∷ rest) (suc m) (omega arith) (sym (at_plain a _ e f g) ∙ h) in
-        rw (plain_more a (b ∷ rest) (or_false _ _ e f) g) (ap suc once.0, once.1)
+      | closing e ↦ λ h. absurd (suc_not_zero (closing_alone a _ e h))
+      | line_end e f ↦ λ h. absurd (true≢false (sym h ∙ at_line_end a _ e f))
+      | slant e f g ↦ λ h.
+          let parts = and_parts _ _ (sym (at_slant a b (take m rest) e f g) ∙ h) in
+          let once = text_closes_once rest m (omega arith) parts.1 in
+          let long : text_length (a ∷ b ∷ rest) ≡ suc (suc (text_length rest)) = slant_more a b rest (or_false _ _ e f) g ∙ cond-true _ _ _ (sym (escapes_within b rest m (omega arith)) ∙ parts.0) in
+          rw long (ap (λ k. suc (suc k)) once.0, once.1)
+      | plain e f g ↦ λ h.
+          let once = text_closes_once (b ∷ rest) (suc m) (omega arith) (sym (at_plain a _ e f g) ∙ h) in
+          rw (plain_more a (b ∷ rest) (or_false _ _ e f) g) (ap suc once.0, once.1)
     ]
 
 begins_within : (ys : List ℕ) (n : ℕ) → begins (λ b. eqb b double_quote) (drop n ys) ≡ true → n < length ys
@@ -234,8 +234,8 @@ char_passes (b ∷ c ∷ d ∷ xs) some =
     cond_both (leb 3 long && is_plain b && eqb c quote) 3 (cond (leb 4 long && eqb b backslash && is_escape c && eqb d quote) 4 0) P
     (λ e _. swap_of_three (leb 3 long) true (is_plain b) (eqb c quote) e refl)
     (λ _. cond_both (leb 4 long && eqb b backslash && is_escape c && eqb d quote) 4 0 P
-      (λ e _. swap_of_four (leb 4 long) true (eqb b backslash) (is_escape c) (eqb d quote) e refl)
-      (λ _ h. absurd (omega arith)))
+    (λ e _. swap_of_four (leb 4 long) true (eqb b backslash) (is_escape c) (eqb d quote) e refl)
+    (λ _ h. absurd (omega arith)))
     some
 
 -- the scanner's character literal is the longest, if there is one
@@ -254,11 +254,11 @@ nothing_is_char = refl
 pub no_char : (xs : List ℕ) (n : ℕ) → char_length xs ≡ 0 → is_char (take n xs) ≡ false
 no_char xs n none =
     false_from_ne_true _ (λ h.
-      let m = min n (length xs) in
-      let same = take_min n xs in
-      let is = ap is_char same ∙ h in
-      let empty : m ≡ 0 = char_is xs m (omega arith) is ∙ none in
-      true≢false (sym is ∙ (ap (λ k. is_char (take k xs)) empty ∙ nothing_is_char)))
+    let m = min n (length xs) in
+    let same = take_min n xs in
+    let is = ap is_char same ∙ h in
+    let empty : m ≡ 0 = char_is xs m (omega arith) is ∙ none in
+    true≢false (sym is ∙ (ap (λ k. is_char (take k xs)) empty ∙ nothing_is_char)))
 
 pub text_step_within : (xs : List ℕ) → text_step xs ≤ length xs
 unfolding text_step escapes
@@ -296,19 +296,19 @@ text_steps [] = no_step
 text_steps (a ∷ []) =
     subst (Moves (a ∷ [])) (sym (step_at a []))
     (cond_both (eqb a double_quote || eqb a newline) 0 (cond (eqb a backslash) (cond (escapes []) 2 0) 1) (Moves (a ∷ []))
-      (λ e. stops_at a [] (none_at_end a [] e))
-      (λ e. cond_both (eqb a backslash) (cond (escapes []) 2 0) 1 (Moves (a ∷ []))
-        (λ f. subst (Moves (a ∷ [])) (sym (cond-false _ _ _ no_escape)) (stops_at a [] (slant_alone a e f)))
-        (λ f. (λ _. plain_more a [] e f ∙ omega arith, λ h. absurd (omega arith)))))
+    (λ e. stops_at a [] (none_at_end a [] e))
+    (λ e. cond_both (eqb a backslash) (cond (escapes []) 2 0) 1 (Moves (a ∷ []))
+    (λ f. subst (Moves (a ∷ [])) (sym (cond-false _ _ _ no_escape)) (stops_at a [] (slant_alone a e f)))
+    (λ f. (λ _. plain_more a [] e f ∙ omega arith, λ h. absurd (omega arith)))))
 text_steps (a ∷ b ∷ rest) =
     subst (Moves (a ∷ b ∷ rest)) (sym (step_at a (b ∷ rest)))
     (cond_both (eqb a double_quote || eqb a newline) 0 (cond (eqb a backslash) (cond (escapes (b ∷ rest)) 2 0) 1) (Moves (a ∷ b ∷ rest))
-      (λ e. stops_at a (b ∷ rest) (none_at_end a (b ∷ rest) e))
-      (λ e. cond_both (eqb a backslash) (cond (escapes (b ∷ rest)) 2 0) 1 (Moves (a ∷ b ∷ rest))
-        (λ f. cond_both (escapes (b ∷ rest)) 2 0 (Moves (a ∷ b ∷ rest))
-          (λ g. (λ _. slant_more a b rest e f ∙ (cond-true _ _ _ g ∙ omega arith), λ h. absurd (omega arith)))
-          (λ g. stops_at a (b ∷ rest) (slant_more a b rest e f ∙ cond-false _ _ _ g)))
-        (λ f. (λ _. plain_more a (b ∷ rest) e f ∙ omega arith, λ h. absurd (omega arith)))))
+    (λ e. stops_at a (b ∷ rest) (none_at_end a (b ∷ rest) e))
+    (λ e. cond_both (eqb a backslash) (cond (escapes (b ∷ rest)) 2 0) 1 (Moves (a ∷ b ∷ rest))
+    (λ f. cond_both (escapes (b ∷ rest)) 2 0 (Moves (a ∷ b ∷ rest))
+    (λ g. (λ _. slant_more a b rest e f ∙ (cond-true _ _ _ g ∙ omega arith), λ h. absurd (omega arith)))
+    (λ g. stops_at a (b ∷ rest) (slant_more a b rest e f ∙ cond-false _ _ _ g)))
+    (λ f. (λ _. plain_more a (b ∷ rest) e f ∙ omega arith, λ h. absurd (omega arith)))))
 
 -- one more character, or the end of them, at a place of a rest
 pub text_more : (xs : List ℕ) (at step : ℕ) → step ≡ text_step (drop at xs) → 0 < step → at + text_length (drop at xs) ≡ text_length xs → (at + step) + text_length (drop (at + step) xs) ≡ text_length xs

@@ -59,9 +59,9 @@ end_within [] n e = absurd (none_is_not n e)
 end_within (a ∷ xs) n e =
     ⊎_elim
     (λ here.
-      let is = some_is 2 n (sym (cond-true _ _ _ here) ∙ e) in
-      let more = begins_some (λ b. eqb b slash) xs (and_parts (eqb a star) _ here).1 in
-      omega arith)
+    let is = some_is 2 n (sym (cond-true _ _ _ here) ∙ e) in
+    let more = begins_some (λ b. eqb b slash) xs (and_parts (eqb a star) _ here).1 in
+    omega arith)
     (λ other. later (length_to_end xs) (length xs) (end_within xs) n (sym (cond-false _ _ _ other) ∙ e))
     (cases_Bool (eqb a star && begins (λ b. eqb b slash) xs))
 
@@ -189,9 +189,9 @@ one_lexeme a b rest m n x y =
     ⊎_elim
     (λ same. (one_class a b (take m rest) x.token (ap (λ k. is_token b (take k rest)) same ∙ y.token), same))
     (λ apart. ⊎_elim
-      (λ below. absurd (true≢false (sym y.token ∙ x.longest n b below y.within)))
-      (λ above. absurd (true≢false (sym x.token ∙ y.longest m a above x.within)))
-      apart)
+    (λ below. absurd (true≢false (sym y.token ∙ x.longest n b below y.within)))
+    (λ above. absurd (true≢false (sym x.token ∙ y.longest m a above x.within)))
+    apart)
     (cases_order m n)
 
 nothing_no_lexeme : (kind : TokenKind) (rest : List ℕ) (n : ℕ) → BeginsNoToken rest → is_token kind (take n rest) ≡ true → ⊥

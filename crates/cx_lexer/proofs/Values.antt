@@ -20,9 +20,9 @@ grown_grows base value [] some = omega arith
 grown_grows base value (b ∷ digits) some =
     cond_both (is_digit base b) (b ∷ filter (is_digit base) digits) (filter (is_digit base) digits) (λ xs. value ≤ fold (λ v c. v * base + digit_value c) value xs)
     (λ _.
-      let more = grown_grows base (value * base + digit_value b) digits some in
-      let product = mul-le-mul_left value some in
-      omega arith)
+    let more = grown_grows base (value * base + digit_value b) digits some in
+    let product = mul-le-mul_left value some in
+    omega arith)
     (λ _. grown_grows base value digits some)
 
 grown_cons : (base value b : ℕ) (digits : List ℕ) → grown base value (b ∷ digits) ≡ cond (is_digit base b) (grown base (value * base + digit_value b) digits) (grown base value digits)

@@ -38,6 +38,7 @@ pub fn is_blank(byte: u8) -> bool
 }
 
 const VERTICAL_TAB: u8 = 11;
+
 const FORM_FEED: u8 = 12;
 
 /// A blank between the backslash and the newline of a line splice.
@@ -45,11 +46,7 @@ const FORM_FEED: u8 = 12;
 pub fn is_splice_blank(byte: u8) -> bool
     ensures { result ≡ is_splice_blank byte }
 {
-    byte == b' '
-        || byte == b'\t'
-        || byte == VERTICAL_TAB
-        || byte == FORM_FEED
-        || byte == b'\r'
+    byte == b' ' || byte == b'\t' || byte == VERTICAL_TAB || byte == FORM_FEED || byte == b'\r'
 }
 
 /// The letter `small` in either case.

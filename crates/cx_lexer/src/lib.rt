@@ -4,7 +4,6 @@
 mod bytes;
 mod comment;
 mod fault;
-
 mod name;
 mod number;
 mod piece;
@@ -16,3 +15,6 @@ mod tokens;
 
 pub use fault::LexFault;
 pub use tokens::{Tokens, lex, one_reading, text_of};
+
+#[cfg(test)]
+mod tests;

@@ -4,7 +4,10 @@ ghost use Rattle.cx_lexer.specs.Comment.{begins_line_comment, begins_block_comme
 ghost use Rattle.cx_lexer.specs.Piece.{Stands};
 
 use crate::bytes::{is_blank, is_decimal_digit, starts_name};
-use crate::comment::{begins_block_comment, begins_line_comment, hides_end, is_spliced_line, length_to_end, line_length};
+use crate::comment::{
+    begins_block_comment, begins_line_comment, hides_end, is_spliced_line, length_to_end,
+    line_length,
+};
 use crate::fault::LexFault;
 use crate::name::{is_word, name_length};
 use crate::number::{is_too_wide, number_length, runs_on};

@@ -66,8 +66,7 @@ pub fn one_reading()
     ensures tokens { (text : List ℕ) (a b : List Token) → Spells text a → Spells text b → a ≡ b }
     ensures fault { (text : List ℕ) (a b : LexFault) → IsFaultOf text a → IsFaultOf text b → a ≡ b }
     ensures apart { (text : List ℕ) (tokens : List Token) (fault : LexFault) → Spells text tokens → IsFaultOf text fault → ⊥ }
-{
-}
+{}
 
 /// The bytes of a token, which lies within the text. It takes no memory.
 pub fn text_of<'a>(text: &'a [u8], token: &Token) -> &'a [u8]
