@@ -1,0 +1,12 @@
+pub mod Examples
+pub mod Fronts
+pub mod Numbers
+pub mod Names
+pub mod Puncts
+pub mod Quotes
+pub mod Comments
+pub mod Values
+pub mod Ends
+pub mod Lexemes
+pub mod Pieces
+pub mod Unique

@@ -1,0 +1,20 @@
+//! The tokens of a text, after [lex].
+#![tactic(auto)]
+
+mod bytes;
+mod comment;
+mod fault;
+mod name;
+mod number;
+mod piece;
+mod punct;
+mod quoted;
+mod seen;
+mod table;
+mod tokens;
+
+pub use fault::LexFault;
+pub use tokens::{Tokens, lex, one_reading, text_of};
+
+#[cfg(test)]
+mod tests;

@@ -1,0 +1,1 @@
+-- The syntax of the language needs no definition of its own so far.
