@@ -1,0 +1,15 @@
+pub mod Words
+pub mod Number
+pub mod Tree
+pub mod Program
+pub mod Store
+pub mod Event
+pub mod Outcome
+pub mod Leaving
+pub mod Block
+pub mod Check
+pub mod Operators
+pub mod Library
+pub mod Statements
+pub mod Meaning
+pub mod Runs

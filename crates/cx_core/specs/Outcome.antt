@@ -1,0 +1,149 @@
+-- A run as far as it has come, what a part of it comes to, and how parts follow each other: this project's own form of control flow, exceptions and termination.
+use Rattle.std.specs.Prelude.{ℕ, zero, suc, List, [], ◌∷◌, Option, Some, None, Result, Ok, Err, replicate}
+use Rattle.cx_core.specs.Words.{Kind, Null, Mixed, Undefined}
+use Rattle.cx_core.specs.Tree.{ObjectType}
+use Rattle.cx_core.specs.Store.{Address, Value, number, address, null, violation, Leaf, Object, Store, without, written, leaf_at, value_of}
+use Rattle.cx_core.specs.Event.{Evaluation, Event, Answer, ended, going}
+
+-- a live object of a scope: one with a number, or a class field of an object under construction
+pub data Living : Type 0 where
+  whole : (object : ℕ) → ObjectType → Living
+  field : Address → (class : ℕ) → Living
+
+-- a thrown exception, by its exception object
+pub record Exception : Type 0 where
+  pub object : ℕ
+  pub type : ObjectType
+
+-- the call that is active, or the predicate that is evaluated for it
+pub record Frame : Type 0 where
+  -- the unit whose code runs
+  pub unit : ℕ
+  -- what the variables and parameters denote, by slot, the latest first
+  pub variables : List (ℕ × Value)
+  -- the place of the result object, or what a reference result refers to
+  pub result : Option Value
+
+pub record State : Type 0 where
+  pub store : Store
+  -- the number of the next object
+  pub next : ℕ
+  pub frame : Frame
+  -- the live objects of the innermost scope, and the temporaries of the innermost full-expression, the latest first
+  pub living : List Living
+  pub temporaries : List Living
+  -- the exceptions that handlers hold, the innermost first
+  pub held : List Exception
+  -- the evaluations that are told, from the next one on
+  pub begins : List Evaluation
+  -- the bytes of the input that aren't read yet
+  pub input : List ℕ
+  -- the units of the budget that are left
+  pub budget : ℕ
+  -- the events so far, the latest first
+  pub trace : List Event
+
+-- a part of a run goes on with what it gives, is left by an exception, or is the end of what is said of the run
+pub data Outcome (A : Type 0) : Type 0 where
+  on : A → State → Outcome A
+  thrown : Exception → State → Outcome A
+  over : Answer → List Event → Outcome A
+
+abbrev pub Does : Type 0 → Type 0
+Does A = State → Outcome A
+
+-- what gives nothing
+pub data Nothing : Type 0 where
+  nothing : Nothing
+
+abbrev pub and_then : {A B : Type 0} → Outcome A → (A → State → Outcome B) → Outcome B
+and_then (on a s) next = next a s
+and_then (thrown e s) next = thrown e s
+and_then (over answer trace) next = over answer trace
+
+infixl 10 ◌>>=◌
+abbrev pub ◌>>=◌ : {A B : Type 0} → Does A → (A → Does B) → Does B
+m >>= next = λ s. and_then (m s) next
+
+infixl 10 ◌>>◌
+abbrev pub ◌>>◌ : {A B : Type 0} → Does A → Does B → Does B
+m >> next = λ s. and_then (m s) (λ _. next)
+
+abbrev pub gives : {A : Type 0} → A → Does A
+gives a = λ s. on a s
+
+abbrev pub skip : Does Nothing
+skip = gives nothing
+
+abbrev pub ends : {A : Type 0} → Answer → Does A
+ends answer = λ s. over answer s.trace
+
+abbrev pub undefined : {A : Type 0} → Kind → Does A
+undefined kind = ends (ended (Undefined kind))
+
+abbrev pub defined : {A : Type 0} → Result A Kind → Does A
+defined (Ok a) = gives a
+defined (Err kind) = undefined kind
+
+-- what a well made program always has
+abbrev pub some : {A : Type 0} → Option A → Does A
+some (Some a) = gives a
+some None = undefined Mixed
+
+abbrev pub told : {A : Type 0} → (State → A) → Does A
+told f = λ s. on (f s) s
+
+abbrev pub changed : (State → State) → Does Nothing
+changed f = λ s. on nothing (f s)
+
+abbrev pub append : Event → Does Nothing
+append event = changed (λ s. record s { trace = event ∷ s.trace })
+
+-- one unit of the budget; nothing is said of what comes after the last one
+abbrev pub spend_of : ℕ → Does Nothing
+spend_of zero = ends going
+spend_of (suc zero) = ends going
+spend_of (suc (suc left)) = changed (λ s. record s { budget = suc left })
+
+abbrev pub spend : Does Nothing
+spend = λ s. spend_of s.budget s
+
+abbrev pub spend_all : ℕ → Does Nothing
+spend_all zero = skip
+spend_all (suc n) = spend >> spend_all n
+
+-- ---- objects
+
+-- an object of so many leaves, all unset, under the next number
+abbrev pub make : ℕ → Does ℕ
+make leaves = λ s. on s.next (record s { next = suc s.next; store = record { number = s.next; leaves = replicate leaves None } ∷ s.store })
+
+-- the object ends
+abbrev pub end_lifetime : ℕ → Does Nothing
+end_lifetime n = spend >> changed (λ s. record s { store = without s.store n })
+
+abbrev pub keep : Living → Does Nothing
+keep l = changed (λ s. record s { living = l ∷ s.living })
+
+abbrev pub keep_temporary : Living → Does Nothing
+keep_temporary l = changed (λ s. record s { temporaries = l ∷ s.temporaries })
+
+-- the place that a reference or pointer denotes
+abbrev pub place_of : Value → Does Address
+place_of (address a) = gives a
+place_of null = undefined Null
+place_of (number n) = undefined Mixed
+place_of (violation v) = undefined Mixed
+
+abbrev pub read_leaf : Address → Does Leaf
+read_leaf a = λ s. defined (leaf_at s.store a) s
+
+abbrev pub read : Address → Does Value
+read a = λ s. defined (value_of (leaf_at s.store a)) s
+
+abbrev pub with_store : Result Store Kind → Does Nothing
+with_store (Ok store) = changed (λ s. record s { store = store })
+with_store (Err kind) = undefined kind
+
+abbrev pub write : Address → Leaf → Does Nothing
+write a leaf = λ s. with_store (written s.store a leaf) s
