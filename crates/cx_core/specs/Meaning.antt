@@ -6,7 +6,7 @@ use Rattle.cx_core.specs.Tree as tree
 use Rattle.cx_core.specs.Program.{Checks, FieldInit, Body, function, violation_handler, constructor, destructor, implicit_constructor, implicit_copy_constructor, implicit_destructor, is_counted, ResultKind, void, scalar_value, scalar_object, class_object, reference, exit_status, Function, Field, Class, Program}
 use Rattle.cx_core.specs.Store.{Address, Value, number, address, null, violation, Object, place_in}
 use Rattle.cx_core.specs.Event.{Evaluation, Event, handler, destroyed, Answer, ended}
-use Rattle.cx_core.specs.Outcome.{Exception, Frame, State, Outcome, on, thrown, over, Does, Nothing, and_then, ◌>>=◌, ◌>>◌, gives, skip, ends, undefined, some, told, append, spend, keep, keep_temporary, place_of, read_leaf, write}
+use Rattle.cx_core.specs.Outcome.{Exception, Frame, State, Outcome, on, thrown, over, Does, Nothing, nothing, and_then, ◌>>=◌, ◌>>◌, gives, skip, ends, undefined, some, told, append, spend, keep, keep_temporary, place_of, read_leaf, write}
 use Rattle.cx_core.specs.Leaving.{Call, Calls, undone_by, edge, edge_if, within, in_unit, class_at, call_on, destroy, destroy_fields, scope, full_expression, constructing, object}
 use Rattle.cx_core.specs.Block.{Owed, row}
 use Rattle.cx_core.specs.Check.{truth, evaluation}
@@ -219,7 +219,7 @@ module _ (program : Program) (calls : Calls) where
       of_type : ObjectType → Does Nothing
       of_type (class t) = do
         definition ← class_at program calls t
-        default ← some definition.constructor
+        default ← some definition.default_constructor
         field_of program calls f.leaf f.type (λ a. call_on program calls default a [])
       of_type other = skip
 
@@ -347,3 +347,8 @@ depth_limit = 4096
 
 unfoldable pub mean : Program → List Evaluation → List ℕ → ℕ → Meaning
 mean program begins input budget = mean_within depth_limit program begins input budget
+
+-- what unfolds where a program is run by computation
+unfoldable pub running : Nothing
+unfolding mean mean_within calls_within implicit_within expr stmt
+running = nothing

@@ -59,8 +59,8 @@ pub record Class : Type 0 where
   pub leaves : List LeafKind
   -- the class objects in it, itself included
   pub objects : ℕ
-  -- the constructor without parameters, if there is one, the copy constructor and the destructor, declared or implicit
-  pub constructor : Option ℕ
+  -- declared or implicit; the first is the constructor without parameters
+  pub default_constructor : Option ℕ
   pub copy_constructor : ℕ
   pub destructor : ℕ
 
