@@ -2,3 +2,10 @@
 mod Writing
 mod Numbers
 mod Assertions
+mod Expressions
+mod Blocks
+mod Classes
+mod Exceptions
+mod Handlers
+mod Account
+mod Depth

@@ -24,7 +24,7 @@ pub holding_assertion_goes_on : IsRun holds_and_returns [] its_journal (Returned
 unfolding running
 holding_assertion_goes_on = refl
 
--- four units: the evaluation, two literals and the operator; the fifth is the literal that is returned, the first the call
+-- six units: the call of `main`, the evaluation, two literals, the operator, and the literal that is returned
 pub budget_of_its_units_is_too_small : mean holds_and_returns (evaluation_of holding Definer Enforce ∷ []) [] 6 ≡ record { trace = its_journal; answer = going }
 unfolding running
 budget_of_its_units_is_too_small = refl

@@ -5,7 +5,7 @@ use Rattle.cx_core.specs.declared.number.IntegerType.{IntegerType}
 use Rattle.cx_core.specs.declared.number.IntegerType.TheVariants as types
 use Rattle.cx_core.specs.declared.number.BinaryOperator.{BinaryOperator}
 use Rattle.cx_core.specs.Words.{AssertionKind, Pre, Post, Assert, Party, Definer, Caller, Semantic, Ending}
-use Rattle.cx_core.specs.Tree.{ObjectType, scalar, class, Constant, number, Expr, literal, variable, this, binary, assign, indirection, member, putchar, Operand, operand, Init, value, Args, no_more, by_reference, by_value, Assertion, Check, Stmt, expression, variable_declaration, return_value, Stmts, done, next}
+use Rattle.cx_core.specs.Tree.{ObjectType, scalar, pointer, class, Constant, number, Expr, literal, variable, this, binary, assign, indirection, member, putchar, Operand, operand, Init, value, Args, no_more, by_reference, by_value, Assertion, Check, Stmt, expression, variable_declaration, return_value, Stmts, done, next}
 use Rattle.cx_core.specs.Program.{Checks, FieldInit, Body, function, violation_handler, constructor, destructor, implicit_constructor, implicit_copy_constructor, implicit_destructor, ResultKind, void, scalar_value, exit_status, Function, LeafKind, number_leaf, empty_leaf, Field, Class, Program}
 use Rattle.cx_core.specs.Event.{Evaluation}
 
@@ -22,6 +22,9 @@ as_is e = operand None None e
 
 abbrev pub read_int : Expr → Operand
 read_int e = operand (Some int) None e
+
+abbrev pub read_pointer : Expr → Operand
+read_pointer e = operand (Some pointer) None e
 
 -- a `char` that is promoted
 abbrev pub read_char : Expr → Operand
@@ -52,6 +55,9 @@ list (s ∷ statements) = next s (list statements)
 
 abbrev pub int_variable : (slot : ℕ) → Operand → Stmt
 int_variable slot a = variable_declaration slot int (value a)
+
+abbrev pub read_variable : (slot : ℕ) → Operand
+read_variable slot = read_int (variable slot)
 
 abbrev pub set_int : (slot : ℕ) → Operand → Stmt
 set_int slot a = expression (assign (variable slot) a)
