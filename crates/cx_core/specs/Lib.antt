@@ -13,3 +13,4 @@ pub mod Library
 pub mod Statements
 pub mod Meaning
 pub mod Runs
+pub mod Numbered
