@@ -14,3 +14,4 @@ pub mod Statements
 pub mod Meaning
 pub mod Runs
 pub mod Numbered
+pub mod Linked

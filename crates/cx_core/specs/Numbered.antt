@@ -1,8 +1,9 @@
 -- The tree that a typed tree of a unit stands for in a program, where functions, classes and globals have the program's numbers: this project's own.
-use Rattle.std.specs.Prelude.{ℕ, ◌<◌, Bool, List, [], ◌∷◌, Option, Some, None, nat_eq, if◌then◌else◌}
+use Rattle.std.specs.Prelude.{ℕ, List, [], ◌∷◌, map, Option, Some, None, nat_eq, if◌then◌else◌}
 use Rattle.cx_types.specs.declared.value_type.ValueType.{ValueType}
 use Rattle.cx_types.specs.declared.value_type.Base.{Base}
 use Rattle.cx_types.specs.declared.value_type.Base.TheVariants as bases
+use Rattle.cx_core.specs.declared.expression.Constant.{Constant}
 use Rattle.cx_core.specs.declared.expression.Constant.TheVariants as constants
 use Rattle.cx_core.specs.declared.expression.Expression.{Expression, fold-Expression}
 use Rattle.cx_core.specs.declared.expression.Operand.{fold-Operand}
@@ -25,6 +26,22 @@ pub record Numbers : Type 0 where
   pub global : ℕ → ℕ
   pub assertion : ℕ → tree.Operand → tree.Check
 
+abbrev pub constant : Constant → tree.Constant
+constant (constants.Number n) = tree.number n
+constant constants.Nullptr = tree.nullptr
+
+abbrev pub args : List (Args → Args) → Args
+args [] = no_more
+args (a ∷ rest) = a (args rest)
+
+abbrev pub stmts : List Stmt → Stmts
+stmts [] = done
+stmts (s ∷ rest) = next s (stmts rest)
+
+abbrev pub handlers : List (Handlers → Handlers) → Handlers
+handlers [] = tree.none
+handlers (h ∷ rest) = h (handlers rest)
+
 module _ (numbers : Numbers) where
   abbrev pub base_type : Base → ObjectType
   base_type (bases.Scalar s) = scalar s
@@ -41,14 +58,6 @@ module _ (numbers : Numbers) where
   object_type_or_none (Some type) = Some (object_type type)
 
   -- ---- one layer of each type, its parts being trees
-
-  abbrev pub constant : Rattle.cx_core.specs.declared.expression.Constant.Constant → tree.Constant
-  constant (constants.Number n) = tree.number n
-  constant constants.Nullptr = tree.nullptr
-
-  abbrev pub args : List (Args → Args) → Args
-  args [] = no_more
-  args (a ∷ rest) = a (args rest)
 
   abbrev pub argument_layer : Argument-F (Args → Args) Expr Init tree.Operand → Args → Args
   argument_layer (Argument-F.ByReference e) = tree.by_reference e
@@ -110,14 +119,6 @@ module _ (numbers : Numbers) where
   condition_of None = tree.always
   condition_of (Some a) = tree.while (operand_of a)
 
-  abbrev pub stmts : List Stmt → Stmts
-  stmts [] = done
-  stmts (s ∷ rest) = next s (stmts rest)
-
-  abbrev pub handlers : List (Handlers → Handlers) → Handlers
-  handlers [] = tree.none
-  handlers (h ∷ rest) = h (handlers rest)
-
   abbrev pub handler_for : Option ValueType → tree.CatchParameter → Stmts → Handlers → Handlers
   handler_for None parameter body = tree.catch_all body
   handler_for (Some type) parameter body = tree.catch (object_type type) parameter body
@@ -149,4 +150,4 @@ module _ (numbers : Numbers) where
   stmt_of = fold-Statement Stmt (Handlers → Handlers) statement_layer handler_layer
 
   abbrev pub stmts_of : List Statement → Stmts
-  stmts_of statements = stmts (Rattle.std.specs.Prelude.map stmt_of statements)
+  stmts_of statements = stmts (map stmt_of statements)
