@@ -1,12 +1,12 @@
 -- What one evaluation of a contract assertion does: [basic.contract.eval] and [basic.contract.handler] of P2900R14, with this project's own rule that a chosen predicate is always evaluated.
 use Rattle.std.specs.Prelude.{Bool, true, false, not, if◌then◌else◌, ℕ, List, [], ◌∷◌, Option, Some, None, pos}
 use Rattle.std.specs.Ordering.{int_eq}
-use Rattle.cx_core.specs.Words.{Party, Semantic, Ignore, Observe, Enforce, QuickEnforce, Holds, False, Threw, Mode, PredicateFalse, EvaluationException, Mixed, ContractTerminated, Violation}
+use Rattle.cx_core.specs.Words.{Semantic, Ignore, Observe, Enforce, QuickEnforce, Holds, False, Threw, Mode, PredicateFalse, EvaluationException, Mixed, ContractTerminated, Violation}
 use Rattle.cx_core.specs.Tree.{Assertion, Check}
 use Rattle.cx_core.specs.Program.{Program}
 use Rattle.cx_core.specs.Store.{Address, Value, number, address, null, violation}
-use Rattle.cx_core.specs.Event.{Evaluation, begin, verdict, handler, ended}
-use Rattle.cx_core.specs.Outcome.{Exception, Frame, State, Outcome, on, thrown, over, Does, Nothing, nothing, and_then, ◌>>=◌, ◌>>◌, gives, skip, ends, undefined, told, append, spend}
+use Rattle.cx_core.specs.Event.{verdict, handler, ended}
+use Rattle.cx_core.specs.Outcome.{Exception, Frame, Does, Nothing, either, ◌>>=◌, ◌>>◌, gives, skip, ends, undefined, current_frame, append}
 use Rattle.cx_core.specs.Leaving.{Call, Calls, holding}
 
 abbrev pub violation_of : Assertion → Mode → Semantic → Violation
@@ -33,8 +33,8 @@ module _ (program : Program) (calls : Calls) where
   abbrev pub handle_by : Option ℕ → Violation → Does Nothing
   handle_by None v = append (handler v)
   handle_by (Some f) v = do
-    s ← told (λ s. s)
-    calls (record { function = f; unit = s.frame.unit; arguments = violation v ∷ []; result = None })
+    frame ← current_frame
+    calls (record { function = f; unit = frame.unit; arguments = violation v ∷ []; result = None })
     skip
 
   abbrev pub handle : Violation → Does Nothing
@@ -47,18 +47,16 @@ module _ (program : Program) (calls : Calls) where
   violated Enforce response = response >> ends (ended ContractTerminated)
   violated QuickEnforce response = ends (ended ContractTerminated)
 
-  -- after the predicate, whose exception is held while the handler runs
-  abbrev pub judged : Assertion → Semantic → Outcome Bool → Outcome Nothing
-  judged a semantic (on true s) = append (verdict Holds) s
-  judged a semantic (on false s) =
-      (append (verdict False) >> violated semantic (handle (violation_of a PredicateFalse semantic))) s
-  judged a semantic (thrown e s) =
-      (append (verdict Threw) >> violated semantic (holding program calls e (handle (violation_of a EvaluationException semantic)))) s
-  judged a semantic (over answer trace) = over answer trace
+  abbrev pub verdict_on : Assertion → Semantic → Bool → Does Nothing
+  verdict_on a semantic true = append (verdict Holds)
+  verdict_on a semantic false = append (verdict False) >> violated semantic (handle (violation_of a PredicateFalse semantic))
 
-  -- an evaluation, given what its predicate does
-  abbrev pub evaluation : Check → Party → Does Value → Does Nothing
-  evaluation c party predicate = do
-    spend
-    append (begin (record { assertion = c.assertion.name; party = party; semantic = c.semantic }))
-    λ s. judged c.assertion c.semantic ((predicate >>= truth) s)
+  -- the exception of a predicate is held while the handler runs
+  abbrev pub verdict_threw : Assertion → Semantic → Exception → Does Nothing
+  verdict_threw a semantic e =
+      append (verdict Threw) >> violated semantic (holding program calls e (handle (violation_of a EvaluationException semantic)))
+
+  -- what follows the beginning of an evaluation, given what its predicate does
+  abbrev pub evaluation : Check → Does Value → Does Nothing
+  evaluation c predicate =
+      either (predicate >>= truth) (verdict_on c.assertion c.semantic) (verdict_threw c.assertion c.semantic)

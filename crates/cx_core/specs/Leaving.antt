@@ -1,10 +1,8 @@
 -- What is done where a scope, a full-expression, a constructor, a handler or a call is left, in whatever way: [stmt.jump.general], [class.temporary], [except.ctor], [except.terminate] and [class.dtor] of the C++ draft, with this project's own end at the edge where `std::terminate` is due.
 use Rattle.std.specs.Prelude.{ℕ, Bool, true, false, ◌||◌, ◌++◌, if◌then◌else◌, nat_eq, List, [], ◌∷◌, length, drop, reverse, Option, Some, None, slice_get}
-use Rattle.cx_core.specs.Words.{Terminated}
 use Rattle.cx_core.specs.Tree.{ObjectType, scalar, pointer, class}
 use Rattle.cx_core.specs.Store.{Address, Value, address, place_in}
-use Rattle.cx_core.specs.Event.{ended}
-use Rattle.cx_core.specs.Outcome.{Living, whole, field, Exception, Frame, State, Outcome, on, thrown, over, Does, Nothing, nothing, and_then, ◌>>=◌, ◌>>◌, gives, skip, ends, some, told, make, end_lifetime}
+use Rattle.cx_core.specs.Outcome.{Living, whole, field, Exception, Frame, Does, Nothing, either, ◌>>=◌, ◌>>◌, gives, throws, skip, some, finally, undone_by, edge, current_frame, set_frame, current_living, set_living, current_temporaries, set_temporaries, current_held, set_held, make, end_lifetime}
 use Rattle.cx_core.specs.Program.{Program, Class, Field}
 
 -- a call that is about to become active: the unit whose code evaluates it, what the parameters denote, `this` first, and the result object's place
@@ -18,48 +16,21 @@ pub record Call : Type 0 where
 abbrev pub Calls : Type 0
 Calls = Call → Does Value
 
--- ---- after a part
-
--- whichever way the part is left, unless the run is over
-abbrev pub finally : {A : Type 0} → Outcome A → Does Nothing → Outcome A
-finally (on a s) last = and_then (last s) (λ _ t. on a t)
-finally (thrown e s) last = and_then (last s) (λ _ t. thrown e t)
-finally (over answer trace) last = over answer trace
-
--- where the part is left by an exception
-abbrev pub if_thrown : {A : Type 0} → Outcome A → Does Nothing → Outcome A
-if_thrown (on a s) last = on a s
-if_thrown (thrown e s) last = and_then (last s) (λ _ t. thrown e t)
-if_thrown (over answer trace) last = over answer trace
-
-abbrev pub undone_by : {A : Type 0} → Does A → Does Nothing → Does A
-undone_by m last = λ s. if_thrown (m s) last
-
--- whichever way the part is left, the state is changed
-abbrev pub restored : {A : Type 0} → Outcome A → (State → State) → Outcome A
-restored (on a s) back = on a (back s)
-restored (thrown e s) back = thrown e (back s)
-restored (over answer trace) back = over answer trace
-
--- no exception passes the edge
-abbrev pub terminated : {A : Type 0} → Outcome A → Outcome A
-terminated (on a s) = on a s
-terminated (thrown e s) = over (ended Terminated) s.trace
-terminated (over answer trace) = over answer trace
-
-abbrev pub edge : {A : Type 0} → Does A → Does A
-edge m = λ s. terminated (m s)
-
 abbrev pub edge_if : {A : Type 0} → Bool → Does A → Does A
 edge_if noexcept m = if noexcept then edge m else m
 
 -- in the frame of a call
 abbrev pub within : {A : Type 0} → Frame → Does A → Does A
-within frame m = λ s. restored (m (record s { frame = frame })) (λ t. record t { frame = s.frame })
+within frame m = do
+  outer ← current_frame
+  set_frame frame
+  finally m (set_frame outer)
 
 -- in the code of a unit
 abbrev pub in_unit : ℕ → Does Nothing → Does Nothing
-in_unit unit m = λ s. within (record s.frame { unit = unit }) m s
+in_unit unit m = do
+  frame ← current_frame
+  within (record frame { unit = unit }) m
 
 abbrev pub and_class_field : ℕ → ObjectType → List (ℕ × ℕ) → List (ℕ × ℕ)
 and_class_field leaf (class c) fields = (leaf, c) ∷ fields
@@ -83,8 +54,8 @@ module _ (program : Program) (calls : Calls) where
   -- a constructor, copy constructor or destructor is called on the object at a place
   abbrev pub call_on : ℕ → Address → List Value → Does Nothing
   call_on f a arguments = do
-    s ← told (λ s. s)
-    calls (record { function = f; unit = s.frame.unit; arguments = address a ∷ arguments; result = None })
+    frame ← current_frame
+    calls (record { function = f; unit = frame.unit; arguments = address a ∷ arguments; result = None })
     skip
 
   -- a class object is destroyed by its destructor, implicit or not
@@ -117,21 +88,24 @@ module _ (program : Program) (calls : Calls) where
 
   -- a scope that is left ends its objects, the latest first
   abbrev pub scope : {A : Type 0} → Does A → Does A
-  scope m = λ s. restored
-      (finally (m (record s { living = [] })) (λ t. end_each t.living t))
-      (λ t. record t { living = s.living })
+  scope m = do
+    outer ← current_living
+    set_living []
+    finally m (current_living >>= end_each >> set_living outer)
 
   -- a full-expression that is left ends its temporaries, the latest first
   abbrev pub full_expression : {A : Type 0} → Does A → Does A
-  full_expression m = λ s. restored
-      (finally (m (record s { temporaries = [] })) (λ t. end_each t.temporaries t))
-      (λ t. record t { temporaries = s.temporaries })
+  full_expression m = do
+    outer ← current_temporaries
+    set_temporaries []
+    finally m (current_temporaries >>= end_each >> set_temporaries outer)
 
   -- a constructor that is left by an exception destroys the fields that it has constructed
   abbrev pub constructing : {A : Type 0} → Does A → Does A
-  constructing m = λ s. restored
-      (if_thrown (m (record s { living = [] })) (λ t. end_each t.living t))
-      (λ t. record t { living = s.living })
+  constructing m = do
+    outer ← current_living
+    set_living []
+    finally (undone_by m (current_living >>= end_each)) (set_living outer)
 
   -- ---- objects
 
@@ -155,11 +129,11 @@ module _ (program : Program) (calls : Calls) where
   abbrev pub end_unless_among : Exception → List Exception → Does Nothing
   end_unless_among e others = if is_among e others then skip else end (whole e.object e.type)
 
-  abbrev pub released : {A : Type 0} → Exception → List Exception → Outcome A → Outcome A
-  released e held (on a s) = and_then (end_unless_among e held (record s { held = held })) (λ _ t. on a t)
-  released e held (thrown x s) = and_then (end_unless_among e (x ∷ held) (record s { held = held })) (λ _ t. thrown x t)
-  released e held (over answer trace) = over answer trace
-
   -- the exception is held meanwhile
   abbrev pub holding : {A : Type 0} → Exception → Does A → Does A
-  holding e m = λ s. released e s.held (m (record s { held = e ∷ s.held }))
+  holding e m = do
+    held ← current_held
+    set_held (e ∷ held)
+    either m
+      (λ a. set_held held >> end_unless_among e held >> gives a)
+      (λ x. set_held held >> end_unless_among e (x ∷ held) >> throws x)

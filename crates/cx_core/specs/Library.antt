@@ -7,7 +7,7 @@ use Rattle.cx_core.specs.declared.number.Query.TheVariants as queries
 use Rattle.cx_core.specs.Words.{AssertionKind, Pre, Post, Assert, Mode, PredicateFalse, EvaluationException, Mixed, Violation}
 use Rattle.cx_core.specs.Store.{Address, Value, number, address, null, violation}
 use Rattle.cx_core.specs.Event.{Event, out, input, input_end, semantic_number}
-use Rattle.cx_core.specs.Outcome.{State, Outcome, on, Does, Nothing, and_then, ◌>>=◌, ◌>>◌, gives, skip, undefined, append, spend, spend_all}
+use Rattle.cx_core.specs.Outcome.{State, on, Does, Nothing, ◌>>=◌, ◌>>◌, gives, skip, undefined, append, spend, spend_all}
 
 abbrev pub write_bytes : List ℕ → Does Nothing
 write_bytes [] = skip
@@ -24,12 +24,15 @@ putchar_call m = do
   write_bytes (b ∷ [])
   gives (number (pos b))
 
-abbrev pub next_byte : List ℕ → Does Value
-next_byte [] = append input_end >> gives (number (negsuc 0))
-next_byte (b ∷ bytes) = λ s. on (number (pos b)) (record s { input = bytes; trace = input b ∷ s.trace })
+abbrev pub read_byte : List ℕ → Does Value
+read_byte [] = append input_end >> gives (number (negsuc 0))
+read_byte (b ∷ bytes) = λ s. on (number (pos b)) (record s { input = bytes; trace = input b ∷ s.trace })
+
+abbrev pub next_byte : Does Value
+next_byte = λ s. read_byte s.input s
 
 abbrev pub getchar_call : Does Value
-getchar_call = spend >> (λ s. next_byte s.input s)
+getchar_call = spend >> next_byte
 
 -- the bytes before the first 0, then a newline
 abbrev pub puts_call : List ℕ → Does Value

@@ -7,6 +7,7 @@ use Rattle.cx_core.specs.declared.choice.Calls.TheVariants as calls
 use Rattle.cx_core.specs.declared.choice.Choice.{Choice}
 use Rattle.cx_core.specs.declared.unit.CoreUnit.{CoreUnit}
 use Rattle.cx_core.specs.declared.unit.Class as unit_class
+use Rattle.cx_core.specs.declared.unit.ClassDefinition.{ClassDefinition}
 use Rattle.cx_core.specs.declared.unit.Field as unit_field
 use Rattle.cx_core.specs.declared.unit.Function as unit_function
 use Rattle.cx_core.specs.declared.unit.Global as unit_global
@@ -206,9 +207,9 @@ module _ (units : List Planned) where
   function_or_none p None = None
   function_or_none p (Some f) = Some ((numbers_of p).function f)
 
-  abbrev pub class_of : Planned → unit_class.Class → program.Class
-  class_of p c = record {
-    name = c.name;
+  abbrev pub class_of : List ℕ → Planned → ClassDefinition → program.Class
+  class_of name p c = record {
+    name = name;
     fields = map (λ f. record { leaf = f.leaf; type = object_type (numbers_of p) f.of }) c.fields.items;
     leaves = map leaf_kind c.leaves.items;
     objects = c.objects;
@@ -217,13 +218,30 @@ module _ (units : List Planned) where
     destructor = (numbers_of p).function c.destructor;
   }
 
-  abbrev pub class_among : List ℕ → Planned → List unit_class.Class → List program.Class → List program.Class
+  -- no object has a class that no unit defines
+  abbrev pub no_class : List ℕ → program.Class
+  no_class name = record {
+    name = name;
+    fields = [];
+    leaves = [];
+    objects = 0;
+    default_constructor = None;
+    copy_constructor = 0;
+    destructor = 0;
+  }
+
+  abbrev pub class_or : List ℕ → Planned → Option ClassDefinition → program.Class → program.Class
+  class_or name p None later = later
+  class_or name p (Some c) later = class_of name p c
+
+  abbrev pub class_among : List ℕ → Planned → List unit_class.Class → program.Class → program.Class
   class_among name p [] later = later
-  class_among name p (c ∷ classes) later = if bytes_eq c.name name then (class_of p c ∷ []) else class_among name p classes later
+  class_among name p (c ∷ classes) later =
+      if bytes_eq c.name name then class_or name p c.definition later else class_among name p classes later
 
   -- the definition in the first unit that has one; all are the same
-  abbrev pub class_from : List ℕ → List Planned → List program.Class
-  class_from name [] = []
+  abbrev pub class_from : List ℕ → List Planned → program.Class
+  class_from name [] = no_class name
   class_from name (p ∷ later) = class_among name p p.unit.classes.items (class_from name later)
 
   -- ---- the program
@@ -242,7 +260,7 @@ module _ (units : List Planned) where
   unfoldable pub linked : Program
   linked = record {
     functions = map (λ name. definition_from name 0 units) (function_names units);
-    classes = flat_map (λ name. class_from name units) (class_names units);
+    classes = map (λ name. class_from name units) (class_names units);
     globals = map (λ g. g.1) (defined_globals units);
     callers = map (λ p. map (λ name. caller_among name p p.unit.functions.items) (function_names units)) units;
     main = number_in (function_names units) (codes "main");

@@ -6,13 +6,13 @@ use Rattle.cx_core.specs.Tree as tree
 use Rattle.cx_core.specs.Program.{Checks, FieldInit, Body, function, violation_handler, constructor, destructor, implicit_constructor, implicit_copy_constructor, implicit_destructor, is_counted, ResultKind, void, scalar_value, scalar_object, class_object, reference, exit_status, Function, Field, Class, Program}
 use Rattle.cx_core.specs.Store.{Address, Value, number, address, null, violation, Object, place_in}
 use Rattle.cx_core.specs.Event.{Evaluation, Event, handler, destroyed, Answer, ended}
-use Rattle.cx_core.specs.Outcome.{Exception, Frame, State, Outcome, on, thrown, over, Does, Nothing, nothing, and_then, ◌>>=◌, ◌>>◌, gives, skip, ends, undefined, some, told, append, spend, keep, keep_temporary, place_of, read_leaf, write}
-use Rattle.cx_core.specs.Leaving.{Call, Calls, undone_by, edge, edge_if, within, in_unit, class_at, call_on, destroy, destroy_fields, scope, full_expression, constructing, object}
+use Rattle.cx_core.specs.Outcome.{Exception, Frame, State, Outcome, on, thrown, over, Does, Nothing, nothing, either, ◌>>=◌, ◌>>◌, gives, throws, skip, ends, undefined, some, undone_by, edge, current_frame, current_held, append, spend, keep, keep_temporary, place_of, read_leaf, write}
+use Rattle.cx_core.specs.Leaving.{Call, Calls, edge_if, within, in_unit, class_at, call_on, destroy, destroy_fields, scope, full_expression, constructing, object}
 use Rattle.cx_core.specs.Block.{Owed, row}
 use Rattle.cx_core.specs.Check.{truth, evaluation}
 use Rattle.cx_core.specs.Operators.{constant, named, bind, converted, unary_operation, binary_operation, logical_operation, conditional_operation, cast_operation, assignment, compound_assignment, prefix_operation, postfix_operation, indirection_of, member_of}
 use Rattle.cx_core.specs.Library.{putchar_call, getchar_call, puts_call, puts_comment_call, query_call}
-use Rattle.cx_core.specs.Statements.{Completion, on_to_next, break, continue, return, completed, sequence, loop, same_type, zero_object, call_of, call_giving, throw_of, rethrown, tried, handled, variable_of, reference_of, this_place, field_of}
+use Rattle.cx_core.specs.Statements.{Completion, on_to_next, break, continue, return, completed, sequence, loop, same_type, zero_object, call_of, call_giving, throw_of, rethrown, handled, variable_of, reference_of, this_place, field_of}
 
 -- the exception object that the innermost handler holds
 abbrev pub held_object : List Exception → Does Value
@@ -32,8 +32,8 @@ module _ (program : Program) (calls : Calls) where
     expr (variable slot) = spend >> named slot
     expr (global i) = spend >> gives (object_place (i + 1))
     expr this = spend >> named 0
-    expr result_name = spend >> (λ s. some s.frame.result s)
-    expr exception_object = λ s. held_object s.held s
+    expr result_name = spend >> current_frame >>= (λ frame. some frame.result)
+    expr exception_object = current_held >>= held_object
     expr (unary operator type a) = unary_operation operator type (used a)
     expr (binary operator type a b) = binary_operation operator type (used a) (used b)
     expr (logical_and a b) = logical_operation false (used a) (used b)
@@ -82,7 +82,7 @@ module _ (program : Program) (calls : Calls) where
     evaluation = record { assertion = c.assertion.name; party = party; semantic = c.semantic };
     times = c.times;
     left = c.times;
-    check = evaluation program calls c party (evaluated c.predicate);
+    check = evaluation program calls c (evaluated c.predicate);
   }
 
   abbrev pub checked : Party → List Check → Does Nothing
@@ -101,10 +101,16 @@ module _ (program : Program) (calls : Calls) where
   result_stored (Some place) v = place_of place >>= (λ a. write a (Some v)) >> gives v
 
   abbrev pub returned : Operand → Does Value
-  returned a = full_expression program calls (used a >>= (λ v s. result_stored s.frame.result v s))
+  returned a = full_expression program calls (do
+    v ← used a
+    frame ← current_frame
+    result_stored frame.result v)
 
   abbrev pub returned_object : Init → Does Nothing
-  returned_object i = full_expression program calls (λ s. (some s.frame.result >>= place_of >>= init i) s)
+  returned_object i = full_expression program calls (do
+    frame ← current_frame
+    place ← some frame.result
+    place_of place >>= init i)
 
   unfoldable mutual
     pub stmt : Stmt → Does Completion
@@ -125,7 +131,7 @@ module _ (program : Program) (calls : Calls) where
     stmt (contract_assert c) = completed (checked Definer (c ∷ []))
     stmt (tree.throw type i) = full_expression program calls (throw_of program calls type (init i))
     stmt rethrow = rethrown program calls
-    stmt (try b h) = λ s. tried program calls (scope program calls (stmts b) s) (handlers h)
+    stmt (try b h) = either (scope program calls (stmts b)) gives (handlers h)
 
     pub stmts : Stmts → Does Completion
     stmts done = gives on_to_next
@@ -133,7 +139,7 @@ module _ (program : Program) (calls : Calls) where
 
     -- in order; each that is tried spends a unit of the budget
     pub handlers : Handlers → Exception → Does Completion
-    handlers none e = λ s. thrown e s
+    handlers none e = throws e
     handlers (catch_all b rest) e = spend >> handled program calls e skip (stmts b)
     handlers (tree.catch type parameter b rest) e =
         spend >> (if same_type e.type type then handled program calls e (catch_parameter parameter e) (stmts b) else handlers rest e)
@@ -175,7 +181,9 @@ module _ (program : Program) (calls : Calls) where
 
   -- what a result name denotes: the result object, or what a reference result refers to
   abbrev pub naming_result : ResultKind → Value → Does Nothing → Does Nothing
-  naming_result reference v m = λ s. within (record s.frame { result = Some v }) m s
+  naming_result reference v m = do
+    frame ← current_frame
+    within (record frame { result = Some v }) m
   naming_result kind v m = m
 
   abbrev pub function_call : Function → Call → Stmts → Does Value

@@ -13,7 +13,7 @@ use Rattle.cx_core.specs.Tree.{ObjectType, scalar, pointer, class}
 use Rattle.cx_core.specs.Tree.{Constant}
 use Rattle.cx_core.specs.Tree as tree
 use Rattle.cx_core.specs.Store.{Address, Value, number, address, null, violation, place_in, leaf_at}
-use Rattle.cx_core.specs.Outcome.{Frame, State, Outcome, on, Does, Nothing, nothing, and_then, ◌>>=◌, ◌>>◌, gives, skip, undefined, defined, some, told, changed, spend, place_of, read_leaf, read, write}
+use Rattle.cx_core.specs.Outcome.{Frame, Does, Nothing, ◌>>=◌, ◌>>◌, gives, undefined, defined, some, current_frame, set_frame, spend, place_of, read_leaf, read, write}
 use Rattle.cx_core.specs.Check.{truth}
 
 abbrev pub constant : Constant → Value
@@ -27,11 +27,13 @@ denoted [] slot = None
 denoted (v ∷ variables) slot = if nat_eq v.0 slot then Some v.1 else denoted variables slot
 
 abbrev pub bind : ℕ → Value → Does Nothing
-bind slot v = changed (λ s. record s { frame = record s.frame { variables = (slot, v) ∷ s.frame.variables } })
+bind slot v = do
+  frame ← current_frame
+  set_frame (record frame { variables = (slot, v) ∷ frame.variables })
 
 -- what a name denotes, without a unit of the budget
 abbrev pub named : ℕ → Does Value
-named slot = λ s. some (denoted s.frame.variables slot) s
+named slot = current_frame >>= (λ frame. some (denoted frame.variables slot))
 
 -- ---- operands
 

@@ -1,6 +1,6 @@
 -- A run as far as it has come, what a part of it comes to, and how parts follow each other: this project's own form of control flow, exceptions and termination.
 use Rattle.std.specs.Prelude.{ℕ, zero, suc, List, [], ◌∷◌, Option, Some, None, Result, Ok, Err, replicate}
-use Rattle.cx_core.specs.Words.{Kind, Null, Mixed, Undefined}
+use Rattle.cx_core.specs.Words.{Kind, Null, Mixed, Undefined, Terminated}
 use Rattle.cx_core.specs.Tree.{ObjectType}
 use Rattle.cx_core.specs.Store.{Address, Value, number, address, null, violation, Leaf, Object, Store, without, written, leaf_at, value_of}
 use Rattle.cx_core.specs.Event.{Evaluation, Event, Answer, ended, going}
@@ -56,27 +56,37 @@ Does A = State → Outcome A
 pub data Nothing : Type 0 where
   nothing : Nothing
 
-abbrev pub and_then : {A B : Type 0} → Outcome A → (A → State → Outcome B) → Outcome B
-and_then (on a s) next = next a s
-and_then (thrown e s) next = thrown e s
-and_then (over answer trace) next = over answer trace
+-- ---- how parts follow each other
 
-infixl 10 ◌>>=◌
-abbrev pub ◌>>=◌ : {A B : Type 0} → Does A → (A → Does B) → Does B
-m >>= next = λ s. and_then (m s) next
+-- what comes after a part, by how it is left; nothing comes after the end
+abbrev pub after : {A B : Type 0} → Outcome A → (A → Does B) → (Exception → Does B) → Outcome B
+after (on a s) next handler = next a s
+after (thrown e s) next handler = handler e s
+after (over answer trace) next handler = over answer trace
 
-infixl 10 ◌>>◌
-abbrev pub ◌>>◌ : {A B : Type 0} → Does A → Does B → Does B
-m >> next = λ s. and_then (m s) (λ _. next)
+abbrev pub either : {A B : Type 0} → Does A → (A → Does B) → (Exception → Does B) → Does B
+either m next handler = λ s. after (m s) next handler
 
 abbrev pub gives : {A : Type 0} → A → Does A
 gives a = λ s. on a s
 
-abbrev pub skip : Does Nothing
-skip = gives nothing
+abbrev pub throws : {A : Type 0} → Exception → Does A
+throws e = λ s. thrown e s
 
 abbrev pub ends : {A : Type 0} → Answer → Does A
 ends answer = λ s. over answer s.trace
+
+-- an exception passes by
+infixl 10 ◌>>=◌
+abbrev pub ◌>>=◌ : {A B : Type 0} → Does A → (A → Does B) → Does B
+m >>= next = either m next throws
+
+infixl 10 ◌>>◌
+abbrev pub ◌>>◌ : {A B : Type 0} → Does A → Does B → Does B
+m >> next = either m (λ _. next) throws
+
+abbrev pub skip : Does Nothing
+skip = gives nothing
 
 abbrev pub undefined : {A : Type 0} → Kind → Does A
 undefined kind = ends (ended (Undefined kind))
@@ -90,20 +100,55 @@ abbrev pub some : {A : Type 0} → Option A → Does A
 some (Some a) = gives a
 some None = undefined Mixed
 
-abbrev pub told : {A : Type 0} → (State → A) → Does A
-told f = λ s. on (f s) s
+-- in whatever way m is left
+abbrev pub finally : {A : Type 0} → Does A → Does Nothing → Does A
+finally m last = either m (λ a. last >> gives a) (λ e. last >> throws e)
 
-abbrev pub changed : (State → State) → Does Nothing
-changed f = λ s. on nothing (f s)
+-- where m is left by an exception
+abbrev pub undone_by : {A : Type 0} → Does A → Does Nothing → Does A
+undone_by m last = either m gives (λ e. last >> throws e)
+
+-- no exception passes the edge [except.terminate]
+abbrev pub edge : {A : Type 0} → Does A → Does A
+edge m = either m gives (λ e. ends (ended Terminated))
+
+-- ---- the parts of a state
+
+abbrev pub current_frame : Does Frame
+current_frame = λ s. on s.frame s
+
+abbrev pub current_store : Does Store
+current_store = λ s. on s.store s
+
+abbrev pub current_living : Does (List Living)
+current_living = λ s. on s.living s
+
+abbrev pub current_temporaries : Does (List Living)
+current_temporaries = λ s. on s.temporaries s
+
+abbrev pub current_held : Does (List Exception)
+current_held = λ s. on s.held s
+
+abbrev pub set_frame : Frame → Does Nothing
+set_frame frame = λ s. on nothing (record s { frame = frame })
+
+abbrev pub set_living : List Living → Does Nothing
+set_living living = λ s. on nothing (record s { living = living })
+
+abbrev pub set_temporaries : List Living → Does Nothing
+set_temporaries temporaries = λ s. on nothing (record s { temporaries = temporaries })
+
+abbrev pub set_held : List Exception → Does Nothing
+set_held held = λ s. on nothing (record s { held = held })
 
 abbrev pub append : Event → Does Nothing
-append event = changed (λ s. record s { trace = event ∷ s.trace })
+append event = λ s. on nothing (record s { trace = event ∷ s.trace })
 
 -- one unit of the budget; nothing is said of what comes after the last one
 abbrev pub spend_of : ℕ → Does Nothing
 spend_of zero = ends going
 spend_of (suc zero) = ends going
-spend_of (suc (suc left)) = changed (λ s. record s { budget = suc left })
+spend_of (suc (suc left)) = λ s. on nothing (record s { budget = suc left })
 
 abbrev pub spend : Does Nothing
 spend = λ s. spend_of s.budget s
@@ -118,15 +163,17 @@ spend_all (suc n) = spend >> spend_all n
 abbrev pub make : ℕ → Does ℕ
 make leaves = λ s. on s.next (record s { next = suc s.next; store = record { number = s.next; leaves = replicate leaves None } ∷ s.store })
 
--- the object ends
+abbrev pub remove : ℕ → Does Nothing
+remove n = λ s. on nothing (record s { store = without s.store n })
+
 abbrev pub end_lifetime : ℕ → Does Nothing
-end_lifetime n = spend >> changed (λ s. record s { store = without s.store n })
+end_lifetime n = spend >> remove n
 
 abbrev pub keep : Living → Does Nothing
-keep l = changed (λ s. record s { living = l ∷ s.living })
+keep l = current_living >>= (λ living. set_living (l ∷ living))
 
 abbrev pub keep_temporary : Living → Does Nothing
-keep_temporary l = changed (λ s. record s { temporaries = l ∷ s.temporaries })
+keep_temporary l = current_temporaries >>= (λ temporaries. set_temporaries (l ∷ temporaries))
 
 -- the place that a reference or pointer denotes
 abbrev pub place_of : Value → Does Address
@@ -136,13 +183,13 @@ place_of (number n) = undefined Mixed
 place_of (violation v) = undefined Mixed
 
 abbrev pub read_leaf : Address → Does Leaf
-read_leaf a = λ s. defined (leaf_at s.store a) s
+read_leaf a = current_store >>= (λ store. defined (leaf_at store a))
 
 abbrev pub read : Address → Does Value
-read a = λ s. defined (value_of (leaf_at s.store a)) s
+read a = current_store >>= (λ store. defined (value_of (leaf_at store a)))
 
 abbrev pub with_store : Result Store Kind → Does Nothing
-with_store (Ok store) = changed (λ s. record s { store = store })
+with_store (Ok store) = λ s. on nothing (record s { store = store })
 with_store (Err kind) = undefined kind
 
 abbrev pub write : Address → Leaf → Does Nothing

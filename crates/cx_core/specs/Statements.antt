@@ -5,9 +5,9 @@ use Rattle.cx_core.specs.Words.{Mixed, Flow, Terminated}
 use Rattle.cx_core.specs.Tree.{ObjectType, scalar, pointer, class}
 use Rattle.cx_core.specs.Store.{Address, Value, number, address, null, violation, Leaf, place_in}
 use Rattle.cx_core.specs.Event.{Event, throw, catch, ended, going}
-use Rattle.cx_core.specs.Outcome.{Living, whole, field, Exception, Frame, State, Outcome, on, thrown, over, Does, Nothing, nothing, and_then, ◌>>=◌, ◌>>◌, gives, skip, ends, undefined, some, told, append, spend, spend_all, make, end_lifetime, keep, place_of, read, write}
+use Rattle.cx_core.specs.Outcome.{Living, whole, field, Exception, Frame, State, Does, Nothing, ◌>>=◌, ◌>>◌, gives, throws, skip, ends, undone_by, edge, current_frame, current_held, append, spend, spend_all, make, end_lifetime, keep, place_of, read, write}
 use Rattle.cx_core.specs.Program.{Program, Class, LeafKind, number_leaf, pointer_leaf, empty_leaf, ResultKind, void, scalar_value, scalar_object, class_object, reference, exit_status}
-use Rattle.cx_core.specs.Leaving.{Call, Calls, undone_by, edge, class_at, scope, full_expression, object, holding}
+use Rattle.cx_core.specs.Leaving.{Call, Calls, class_at, scope, full_expression, object, holding}
 use Rattle.cx_core.specs.Check.{truth}
 use Rattle.cx_core.specs.Operators.{bind, named}
 
@@ -85,16 +85,16 @@ module _ (program : Program) (calls : Calls) where
   abbrev pub call_of : ℕ → Does (List Value) → Option Value → Does Value
   call_of f arguments result = scope program calls (do
     values ← arguments
-    s ← told (λ s. s)
-    calls (record { function = f; unit = s.frame.unit; arguments = values; result = result }))
+    frame ← current_frame
+    calls (record { function = f; unit = frame.unit; arguments = values; result = result }))
 
   -- the value of a result object is read after the last postcondition, before the parameters end
   abbrev pub call_into : ℕ → Does (List Value) → ℕ → Does Value
   call_into f arguments n = scope program calls (do
     values ← arguments
-    s ← told (λ s. s)
+    frame ← current_frame
     let place : Address = record { object = n; leaf = 0 }
-    calls (record { function = f; unit = s.frame.unit; arguments = values; result = Some (address place) })
+    calls (record { function = f; unit = frame.unit; arguments = values; result = Some (address place) })
     read place)
 
   -- a result object is made before the arguments are evaluated, and ends last
@@ -117,20 +117,15 @@ module _ (program : Program) (calls : Calls) where
     n ← object program calls (λ _. skip) type init
     spend
     append (throw (type_name program type))
-    λ s. thrown (record { object = n; type = type }) s
+    throws (record { object = n; type = type })
 
   -- the innermost exception that is held flies again
   abbrev pub rethrow_of : List Exception → Does Completion
   rethrow_of [] = ends (ended Terminated)
-  rethrow_of (e ∷ held) = append (throw (type_name program e.type)) >> (λ s. thrown e s)
+  rethrow_of (e ∷ held) = append (throw (type_name program e.type)) >> throws e
 
   abbrev pub rethrown : Does Completion
-  rethrown = spend >> (λ s. rethrow_of s.held s)
-
-  abbrev pub tried : Outcome Completion → (Exception → Does Completion) → Outcome Completion
-  tried (on completion s) handlers = on completion s
-  tried (thrown e s) handlers = handlers e s
-  tried (over answer trace) handlers = over answer trace
+  rethrown = spend >> current_held >>= rethrow_of
 
   -- a handler takes an exception: its parameter is initialised, then its block runs
   abbrev pub handled : Exception → Does Nothing → Does Completion → Does Completion

@@ -14,10 +14,16 @@ pub struct CoreUnit {
     pub assertions: Vec<Assertion>,
 }
 
-/// A class [class], with its layout.
+/// A class [class]; one that is only declared has no definition.
 #[derive(Drop)]
 pub struct Class {
     pub name: Text,
+    pub definition: Option<ClassDefinition>,
+}
+
+/// The layout of a class, and the functions that make, copy and destroy its objects.
+#[derive(Drop)]
+pub struct ClassDefinition {
     /// In order of declaration.
     pub fields: Vec<Field>,
     pub leaves: Vec<LeafKind>,
