@@ -1,7 +1,7 @@
 -- A block of checks: the evaluations of the contract assertions of one call that one party makes, in an order and with repetitions that [basic.contract.eval] of P2900R14 permits; the numbers of evaluations are this project's own.
 use Rattle.std.specs.Prelude.{ℕ, zero, suc, ◌+◌, Bool, ◌||◌, if◌then◌else◌, nat_eq, nat_lt, List, [], ◌∷◌, Option, Some, None}
 use Rattle.cx_core.specs.Event.{Evaluation, same_evaluation, begin, waiting, not_a_run}
-use Rattle.cx_core.specs.Outcome.{State, on, Does, Nothing, nothing, ◌>>=◌, ◌>>◌, gives, skip, ends, spend}
+use Rattle.cx_core.specs.Outcome.{State, Outcome, on, over, Does, Nothing, nothing, ◌>>=◌, ◌>>◌, skip, ends, spend}
 
 -- an evaluation that a row owes: how often in all, how often still, and what it does
 pub record Owed : Type 0 where
@@ -38,32 +38,32 @@ abbrev pub total : List Owed → ℕ
 total [] = 0
 total (o ∷ owed) = o.left + total owed
 
-abbrev pub permitted : Option Continued → Does Continued
-permitted None = ends not_a_run
-permitted (Some c) = gives c
+-- the next evaluation that is told
+abbrev pub next_of : List Evaluation → State → Outcome Evaluation
+next_of [] s = over waiting s.trace
+next_of (e ∷ begins) s = on e s
 
--- the next evaluation that is told begins, if the row may go on with it
-abbrev pub begin_next : List Evaluation → List Owed → Does Continued
-begin_next [] owed = ends waiting
-begin_next (e ∷ begins) owed = do
-  c ← permitted (continued e owed)
-  spend
-  begun e begins
-  gives c
-  where
-    begun : Evaluation → List Evaluation → Does Nothing
-    begun e begins = λ s. on nothing (record s { begins = begins; trace = begin e ∷ s.trace })
+unfoldable pub next_told : Does Evaluation
+next_told = λ s. next_of s.begins s
 
-abbrev pub next_evaluation : List Owed → Does Continued
-next_evaluation owed = λ s. begin_next s.begins owed s
+-- it begins
+abbrev pub begin_of : List Evaluation → State → Outcome Nothing
+begin_of [] s = over waiting s.trace
+begin_of (e ∷ begins) s = on nothing (record s { begins = begins; trace = begin e ∷ s.trace })
+
+unfoldable pub begin_told : Does Nothing
+begin_told = λ s. begin_of s.begins s
+
+abbrev pub if_permitted : Option Continued → (Does Nothing → List Owed → Does Nothing) → Does Nothing
+if_permitted None next = ends not_a_run
+if_permitted (Some c) next = next c.0 c.1
 
 -- so many evaluations, as they are told
-abbrev pub evaluations : ℕ → List Owed → Does Nothing
+unfoldable pub evaluations : ℕ → List Owed → Does Nothing
 evaluations zero owed = skip
 evaluations (suc n) owed = do
-  c ← next_evaluation owed
-  c.0
-  evaluations n c.1
+  e ← next_told
+  if_permitted (continued e owed) (λ check more. spend >> begin_told >> check >> evaluations n more)
 
 -- a row: every evaluation that is owed
 abbrev pub row : List Owed → Does Nothing

@@ -7,7 +7,7 @@ use Rattle.cx_core.specs.declared.number.Query.TheVariants as queries
 use Rattle.cx_core.specs.Words.{AssertionKind, Pre, Post, Assert, Mode, PredicateFalse, EvaluationException, Mixed, Violation}
 use Rattle.cx_core.specs.Store.{Address, Value, number, address, null, violation}
 use Rattle.cx_core.specs.Event.{Event, out, input, input_end, semantic_number}
-use Rattle.cx_core.specs.Outcome.{State, on, Does, Nothing, ◌>>=◌, ◌>>◌, gives, skip, undefined, append, spend, spend_all}
+use Rattle.cx_core.specs.Outcome.{State, Outcome, on, Does, Nothing, ◌>>=◌, ◌>>◌, gives, skip, undefined, append, spend, spend_all}
 
 abbrev pub write_bytes : List ℕ → Does Nothing
 write_bytes [] = skip
@@ -24,11 +24,11 @@ putchar_call m = do
   write_bytes (b ∷ [])
   gives (number (pos b))
 
-abbrev pub read_byte : List ℕ → Does Value
-read_byte [] = append input_end >> gives (number (negsuc 0))
-read_byte (b ∷ bytes) = λ s. on (number (pos b)) (record s { input = bytes; trace = input b ∷ s.trace })
+abbrev pub read_byte : List ℕ → State → Outcome Value
+read_byte [] s = on (number (negsuc 0)) (record s { trace = input_end ∷ s.trace })
+read_byte (b ∷ bytes) s = on (number (pos b)) (record s { input = bytes; trace = input b ∷ s.trace })
 
-abbrev pub next_byte : Does Value
+unfoldable pub next_byte : Does Value
 next_byte = λ s. read_byte s.input s
 
 abbrev pub getchar_call : Does Value

@@ -6,13 +6,13 @@ use Rattle.cx_core.specs.Tree as tree
 use Rattle.cx_core.specs.Program.{Checks, FieldInit, Body, function, violation_handler, constructor, destructor, implicit_constructor, implicit_copy_constructor, implicit_destructor, is_counted, ResultKind, void, scalar_value, scalar_object, class_object, reference, exit_status, Function, Field, Class, Program}
 use Rattle.cx_core.specs.Store.{Address, Value, number, address, null, violation, Object, place_in}
 use Rattle.cx_core.specs.Event.{Evaluation, Event, handler, destroyed, Answer, ended}
-use Rattle.cx_core.specs.Outcome.{Exception, Frame, State, Outcome, on, thrown, over, Does, Nothing, nothing, either, ◌>>=◌, ◌>>◌, gives, throws, skip, ends, undefined, some, undone_by, edge, current_frame, current_held, append, spend, keep, keep_temporary, place_of, read_leaf, write}
+use Rattle.cx_core.specs.Outcome.{Exception, Frame, State, Outcome, on, thrown, over, Does, Nothing, nothing, either, ◌>>=◌, ◌>>◌, gives, throws, skip, ends, undefined, some, undone_by, edge, current_frame, current_store, current_living, current_temporaries, current_held, set_frame, set_living, set_temporaries, set_held, append, spend, make, remove, keep, keep_temporary, place_of, read_leaf, write}
 use Rattle.cx_core.specs.Leaving.{Call, Calls, edge_if, within, in_unit, class_at, call_on, destroy, destroy_fields, scope, full_expression, constructing, object}
-use Rattle.cx_core.specs.Block.{Owed, row}
+use Rattle.cx_core.specs.Block.{Owed, row, evaluations, next_told, begin_told}
 use Rattle.cx_core.specs.Check.{truth, evaluation}
 use Rattle.cx_core.specs.Operators.{constant, named, bind, converted, unary_operation, binary_operation, logical_operation, conditional_operation, cast_operation, assignment, compound_assignment, prefix_operation, postfix_operation, indirection_of, member_of}
-use Rattle.cx_core.specs.Library.{putchar_call, getchar_call, puts_call, puts_comment_call, query_call}
-use Rattle.cx_core.specs.Statements.{Completion, on_to_next, break, continue, return, completed, sequence, loop, same_type, zero_object, call_of, call_giving, throw_of, rethrown, handled, variable_of, reference_of, this_place, field_of}
+use Rattle.cx_core.specs.Library.{putchar_call, getchar_call, next_byte, puts_call, puts_comment_call, query_call}
+use Rattle.cx_core.specs.Statements.{Completion, on_to_next, break, continue, return, completed, sequence, turns, loop, same_type, zero_object, call_of, call_giving, throw_of, rethrown, handled, variable_of, reference_of, this_place, field_of}
 
 -- the exception object that the innermost handler holds
 abbrev pub held_object : List Exception → Does Value
@@ -358,5 +358,5 @@ mean program begins input budget = mean_within depth_limit program begins input 
 
 -- what unfolds where a program is run by computation
 unfoldable pub running : Nothing
-unfolding mean mean_within calls_within implicit_within expr stmt
+unfolding mean mean_within calls_within implicit_within expr stmt turns loop next_byte evaluations next_told begin_told either gives throws ends spend append current_frame current_store current_living current_temporaries current_held set_frame set_living set_temporaries set_held make remove write
 running = nothing

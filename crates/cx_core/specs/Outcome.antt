@@ -58,22 +58,24 @@ pub data Nothing : Type 0 where
 
 -- ---- how parts follow each other
 
+-- The primitives of this file don't unfold by themselves, so that the laws of a run can be stated of each of them.
+
 -- what comes after a part, by how it is left; nothing comes after the end
 abbrev pub after : {A B : Type 0} → Outcome A → (A → Does B) → (Exception → Does B) → Outcome B
 after (on a s) next handler = next a s
 after (thrown e s) next handler = handler e s
 after (over answer trace) next handler = over answer trace
 
-abbrev pub either : {A B : Type 0} → Does A → (A → Does B) → (Exception → Does B) → Does B
+unfoldable pub either : {A B : Type 0} → Does A → (A → Does B) → (Exception → Does B) → Does B
 either m next handler = λ s. after (m s) next handler
 
-abbrev pub gives : {A : Type 0} → A → Does A
+unfoldable pub gives : {A : Type 0} → A → Does A
 gives a = λ s. on a s
 
-abbrev pub throws : {A : Type 0} → Exception → Does A
+unfoldable pub throws : {A : Type 0} → Exception → Does A
 throws e = λ s. thrown e s
 
-abbrev pub ends : {A : Type 0} → Answer → Does A
+unfoldable pub ends : {A : Type 0} → Answer → Does A
 ends answer = λ s. over answer s.trace
 
 -- an exception passes by
@@ -114,43 +116,43 @@ edge m = either m gives (λ e. ends (ended Terminated))
 
 -- ---- the parts of a state
 
-abbrev pub current_frame : Does Frame
+unfoldable pub current_frame : Does Frame
 current_frame = λ s. on s.frame s
 
-abbrev pub current_store : Does Store
+unfoldable pub current_store : Does Store
 current_store = λ s. on s.store s
 
-abbrev pub current_living : Does (List Living)
+unfoldable pub current_living : Does (List Living)
 current_living = λ s. on s.living s
 
-abbrev pub current_temporaries : Does (List Living)
+unfoldable pub current_temporaries : Does (List Living)
 current_temporaries = λ s. on s.temporaries s
 
-abbrev pub current_held : Does (List Exception)
+unfoldable pub current_held : Does (List Exception)
 current_held = λ s. on s.held s
 
-abbrev pub set_frame : Frame → Does Nothing
+unfoldable pub set_frame : Frame → Does Nothing
 set_frame frame = λ s. on nothing (record s { frame = frame })
 
-abbrev pub set_living : List Living → Does Nothing
+unfoldable pub set_living : List Living → Does Nothing
 set_living living = λ s. on nothing (record s { living = living })
 
-abbrev pub set_temporaries : List Living → Does Nothing
+unfoldable pub set_temporaries : List Living → Does Nothing
 set_temporaries temporaries = λ s. on nothing (record s { temporaries = temporaries })
 
-abbrev pub set_held : List Exception → Does Nothing
+unfoldable pub set_held : List Exception → Does Nothing
 set_held held = λ s. on nothing (record s { held = held })
 
-abbrev pub append : Event → Does Nothing
+unfoldable pub append : Event → Does Nothing
 append event = λ s. on nothing (record s { trace = event ∷ s.trace })
 
 -- one unit of the budget; nothing is said of what comes after the last one
-abbrev pub spend_of : ℕ → Does Nothing
-spend_of zero = ends going
-spend_of (suc zero) = ends going
-spend_of (suc (suc left)) = λ s. on nothing (record s { budget = suc left })
+abbrev pub spend_of : ℕ → State → Outcome Nothing
+spend_of zero s = over going s.trace
+spend_of (suc zero) s = over going s.trace
+spend_of (suc (suc left)) s = on nothing (record s { budget = suc left })
 
-abbrev pub spend : Does Nothing
+unfoldable pub spend : Does Nothing
 spend = λ s. spend_of s.budget s
 
 abbrev pub spend_all : ℕ → Does Nothing
@@ -160,10 +162,10 @@ spend_all (suc n) = spend >> spend_all n
 -- ---- objects
 
 -- an object of so many leaves, all unset, under the next number
-abbrev pub make : ℕ → Does ℕ
+unfoldable pub make : ℕ → Does ℕ
 make leaves = λ s. on s.next (record s { next = suc s.next; store = record { number = s.next; leaves = replicate leaves None } ∷ s.store })
 
-abbrev pub remove : ℕ → Does Nothing
+unfoldable pub remove : ℕ → Does Nothing
 remove n = λ s. on nothing (record s { store = without s.store n })
 
 abbrev pub end_lifetime : ℕ → Does Nothing
@@ -188,9 +190,9 @@ read_leaf a = current_store >>= (λ store. defined (leaf_at store a))
 abbrev pub read : Address → Does Value
 read a = current_store >>= (λ store. defined (value_of (leaf_at store a)))
 
-abbrev pub with_store : Result Store Kind → Does Nothing
-with_store (Ok store) = λ s. on nothing (record s { store = store })
-with_store (Err kind) = undefined kind
+abbrev pub with_store : Result Store Kind → State → Outcome Nothing
+with_store (Ok store) s = on nothing (record s { store = store })
+with_store (Err kind) s = over (ended (Undefined kind)) s.trace
 
-abbrev pub write : Address → Leaf → Does Nothing
+unfoldable pub write : Address → Leaf → Does Nothing
 write a leaf = λ s. with_store (written s.store a leaf) s

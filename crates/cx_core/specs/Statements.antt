@@ -34,14 +34,14 @@ after_turn step turns break = gives on_to_next
 after_turn step turns (return v) = gives (return v)
 
 -- at most as many turns as units of the budget are left, as each one spends a unit
-abbrev pub turns : ℕ → Does Bool → Does Completion → Does Completion → Does Completion
+unfoldable pub turns : ℕ → Does Bool → Does Completion → Does Completion → Does Completion
 turns zero condition step body = ends going
 turns (suc n) condition step body = do
   spend
   b ← condition
   if b then body >>= after_turn step (turns n condition step body) else gives on_to_next
 
-abbrev pub loop : Does Bool → Does Completion → Does Completion → Does Completion
+unfoldable pub loop : Does Bool → Does Completion → Does Completion → Does Completion
 loop condition step body = λ s. turns s.budget condition step body s
 
 -- ---- types of exceptions
