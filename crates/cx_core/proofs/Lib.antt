@@ -1,1 +1,2 @@
 mod rows
+mod Everywhere

@@ -1,28 +1,29 @@
 -- The library functions that the profile has, and what a handler asks of its violation: [cstdio.syn] and [support.contract.violation], with this project's own bytes, numbers and value of `puts`.
-use Rattle.std.specs.Prelude.{ℕ, Bool, List, [], ◌∷◌, ◌++◌, ℤ, pos, negsuc, nat_eq, unsigned_abs}
+use Rattle.std.specs.Prelude.{ℕ, Bool, List, [], ◌∷◌, ◌++◌, Option, Some, None, ℤ, pos, negsuc, nat_eq, unsigned_abs}
 use Rattle.std.specs.Int.{int_rem_euclid}
 use Rattle.std.specs.List.{before_first}
 use Rattle.cx_core.specs.declared.number.Query.{Query}
 use Rattle.cx_core.specs.declared.number.Query.TheVariants as queries
-use Rattle.cx_core.specs.Words.{AssertionKind, Pre, Post, Assert, Mode, PredicateFalse, EvaluationException, Mixed, Violation}
+use Rattle.cx_core.specs.Words.{AssertionKind, Pre, Post, Assert, Mode, PredicateFalse, EvaluationException, Violation}
 use Rattle.cx_core.specs.Store.{Address, Value, number, address, null, violation}
 use Rattle.cx_core.specs.Event.{Event, out, input, input_end, semantic_number}
-use Rattle.cx_core.specs.Outcome.{State, Outcome, on, Does, Nothing, ◌>>=◌, ◌>>◌, gives, skip, undefined, append, spend, spend_all}
+use Rattle.cx_core.specs.Outcome.{State, Outcome, on, Does, Nothing, ◌>>=◌, ◌>>◌, gives, skip, some, append, spend, spend_all}
+use Rattle.cx_core.specs.Operators.{number_of}
 
 abbrev pub write_bytes : List ℕ → Does Nothing
 write_bytes [] = skip
 write_bytes (b ∷ bytes) = spend >> append (out b) >> write_bytes bytes
 
-abbrev pub byte_of : Value → Does ℕ
-byte_of (number n) = gives (unsigned_abs (int_rem_euclid n (pos 256)))
-byte_of v = undefined Mixed
+abbrev pub byte_of : ℤ → ℕ
+byte_of n = unsigned_abs (int_rem_euclid n (pos 256))
 
 abbrev pub putchar_call : Does Value → Does Value
 putchar_call m = do
-  b ← m >>= byte_of
+  v ← m
+  n ← some (number_of v)
   spend
-  write_bytes (b ∷ [])
-  gives (number (pos b))
+  write_bytes (byte_of n ∷ [])
+  gives (number (pos (byte_of n)))
 
 abbrev pub read_byte : List ℕ → State → Outcome Value
 read_byte [] s = on (number (negsuc 0)) (record s { trace = input_end ∷ s.trace })
@@ -67,19 +68,21 @@ query_units queries.DetectionMode = 2
 query_units queries.Line = 4
 query_units queries.Column = 4
 
-abbrev pub violation_in : Value → Does Violation
-violation_in (violation v) = gives v
-violation_in v = undefined Mixed
+abbrev pub violation_in : Value → Option Violation
+violation_in (violation v) = Some v
+violation_in other = None
 
 abbrev pub query_call : Query → Does Value → Does Value
 query_call query m = do
-  v ← m >>= violation_in
+  report ← m
+  v ← some (violation_in report)
   spend_all (query_units query)
   gives (number (pos (told_number query v)))
 
 -- `puts(v.comment())`
 abbrev pub puts_comment_call : Does Value → Does Value
 puts_comment_call m = do
-  v ← m >>= violation_in
+  report ← m
+  v ← some (violation_in report)
   spend_all 2
   puts_call v.comment

@@ -146,16 +146,16 @@ module _ (program : Program) (calls : Calls) where
 
   -- ---- calls
 
-  abbrev pub caller_checks : Call → Checks
-  caller_checks c = checks_in (slice_get program.callers c.unit)
-    where
-      or_none : Option Checks → Checks
-      or_none None = record { preconditions = []; postconditions = [] }
-      or_none (Some checks) = checks
+  abbrev pub or_no_checks : Option Checks → Checks
+  or_no_checks None = record { preconditions = []; postconditions = [] }
+  or_no_checks (Some checks) = checks
 
-      checks_in : Option (List Checks) → Checks
-      checks_in None = record { preconditions = []; postconditions = [] }
-      checks_in (Some functions) = or_none (slice_get functions c.function)
+  abbrev pub checks_at : ℕ → Option (List Checks) → Checks
+  checks_at f None = or_no_checks None
+  checks_at f (Some functions) = or_no_checks (slice_get functions f)
+
+  abbrev pub caller_checks : Call → Checks
+  caller_checks c = checks_at c.function (slice_get program.callers c.unit)
 
   -- the block before the body: the Caller's row, then the Definer's
   abbrev pub preconditions : Function → Call → Does Nothing
@@ -221,19 +221,16 @@ module _ (program : Program) (calls : Calls) where
   report arguments = undefined Mixed
 
   -- a field that is a class object is constructed without arguments, a scalar isn't touched
-  abbrev pub default_field : Field → Does Nothing
-  default_field f = of_type f.type
-    where
-      of_type : ObjectType → Does Nothing
-      of_type (class t) = do
-        definition ← class_at program calls t
-        default ← some definition.default_constructor
-        field_of program calls f.leaf f.type (λ a. call_on program calls default a [])
-      of_type other = skip
+  abbrev pub default_field : ℕ → ObjectType → Does Nothing
+  default_field leaf (class t) = do
+    definition ← class_at program calls t
+    default ← some definition.default_constructor
+    field_of program calls leaf (class t) (λ a. call_on program calls default a [])
+  default_field leaf other = skip
 
   abbrev pub default_fields : List Field → Does Nothing
   default_fields [] = skip
-  default_fields (f ∷ fields) = default_field f >> default_fields fields
+  default_fields (f ∷ fields) = default_field f.leaf f.type >> default_fields fields
 
   -- a leaf is copied as it is, set or unset
   abbrev pub copy_leaf : Address → Address → Does Nothing
@@ -250,19 +247,16 @@ module _ (program : Program) (calls : Calls) where
   copy_fields from (f ∷ fields) = field_of program calls f.leaf f.type (copy_object f.type (place_in from f.leaf)) >> copy_fields from fields
 
   -- a class without fields has one leaf, which is copied likewise
-  abbrev pub copy_class : Class → Address → Address → Does Nothing
-  copy_class definition from to = of_fields definition.fields
-    where
-      of_fields : List Field → Does Nothing
-      of_fields [] = copy_leaf from to
-      of_fields fields = copy_fields from fields
+  abbrev pub copy_members : List Field → Address → Address → Does Nothing
+  copy_members [] from to = copy_leaf from to
+  copy_members (f ∷ fields) from to = copy_fields from (f ∷ fields)
 
   abbrev pub implicit_copy : ℕ → Does Value
   implicit_copy t = constructing program calls (do
     definition ← class_at program calls t
     to ← this_place program calls
     from ← named 1 >>= place_of
-    copy_class definition from to
+    copy_members definition.fields from to
     gives null)
 
   abbrev pub implicit_default : ℕ → Does Value

@@ -68,11 +68,19 @@ read_as None v = gives v
 read_as (Some type) v = place_of v >>= read >>= fitting type
 
 -- a pointer converts to `bool` alone
+abbrev pub pointer_number : IntegerType → Bool → Option ℤ
+pointer_number types.Bool is_not_null = Some (truth_number is_not_null)
+pointer_number type is_not_null = None
+
+abbrev pub value_number : IntegerType → Value → Option ℤ
+value_number type (number n) = Some (converted_number type n)
+value_number type (address a) = pointer_number type true
+value_number type null = pointer_number type false
+value_number type (violation v) = None
+
 abbrev pub converted_to : Option IntegerType → Value → Does Value
 converted_to None v = gives v
-converted_to (Some type) (number n) = gives (number (converted_number type n))
-converted_to (Some types.Bool) v = truth v >>= (λ b. gives (number (truth_number b)))
-converted_to (Some type) v = undefined Mixed
+converted_to (Some type) v = some (value_number type v) >>= (λ n. gives (number n))
 
 abbrev pub converted : Option ObjectType → Option IntegerType → Does Value → Does Value
 converted type to m = m >>= read_as type >>= converted_to to
@@ -105,20 +113,37 @@ same_pointer null (address b) = Some false
 same_pointer null null = Some true
 same_pointer _ _ = None
 
-abbrev pub pointers_compared : BinaryOperator → Option Bool → Does Value
-pointers_compared binary.Equal (Some same) = gives (number (truth_number same))
-pointers_compared binary.NotEqual (Some same) = gives (number (truth_number (not same)))
-pointers_compared operator same = undefined Mixed
+abbrev pub pointers_compared : BinaryOperator → Bool → Option ℤ
+pointers_compared binary.Equal same = Some (truth_number same)
+pointers_compared binary.NotEqual same = Some (truth_number (not same))
+pointers_compared operator same = None
+
+abbrev pub numbers_operated : BinaryOperator → IntegerType → ℤ → ℤ → Does Value
+numbers_operated operator type x y =
+    if operands_fit operator type x y then number_given (binary_number operator type x y) else undefined Mixed
+
+abbrev pub pointers_operated : BinaryOperator → Value → Value → Does Value
+pointers_operated operator x y = do
+  same ← some (same_pointer x y)
+  n ← some (pointers_compared operator same)
+  gives (number n)
 
 abbrev pub operated : BinaryOperator → IntegerType → Value → Value → Does Value
-operated operator type (number x) (number y) =
-    if operands_fit operator type x y then number_given (binary_number operator type x y) else undefined Mixed
-operated operator type x y = pointers_compared operator (same_pointer x y)
+operated operator type (number x) (number y) = numbers_operated operator type x y
+operated operator type x y = pointers_operated operator x y
+
+abbrev pub number_of : Value → Option ℤ
+number_of (number n) = Some n
+number_of v = None
+
+-- a number of the type
+abbrev pub of_type : IntegerType → Value → Does ℤ
+of_type type v = do
+  n ← some (number_of v)
+  if in_range type n then gives n else undefined Mixed
 
 abbrev pub unary_operated : UnaryOperator → IntegerType → Value → Does Value
-unary_operated operator type (number x) =
-    if in_range type x then number_given (unary_number operator type x) else undefined Mixed
-unary_operated operator type x = undefined Mixed
+unary_operated operator type v = of_type type v >>= (λ x. number_given (unary_number operator type x))
 
 abbrev pub unary_operation : UnaryOperator → IntegerType → Does Value → Does Value
 unary_operation operator type m = do
@@ -133,12 +158,15 @@ binary_operation operator type left right = do
   spend
   operated operator type x y
 
+abbrev pub truth_value : Bool → Value
+truth_value b = number (truth_number b)
+
 -- `&&` and `||` evaluate the right operand where the left one doesn't decide [expr.log.and], [expr.log.or]
 abbrev pub logical_operation : (decides : Bool) → Does Value → Does Value → Does Value
 logical_operation decides left right = do
   x ← left >>= truth
   spend
-  if (if decides then x else not x) then gives (number (truth_number decides)) else (right >>= truth >>= (λ y. gives (number (truth_number y))))
+  if (if decides then x else not x) then gives (truth_value decides) else (right >>= truth >>= (λ y. gives (truth_value y)))
 
 abbrev pub conditional_operation : Does Value → Does Value → Does Value → Does Value
 conditional_operation condition first second = do
@@ -166,20 +194,16 @@ assignment left right = do
   stored place v
   gives place
 
-abbrev pub of_type : IntegerType → Value → Does Value
-of_type type (number n) = if in_range type n then gives (number n) else undefined Mixed
-of_type type v = undefined Mixed
-
 -- what the place holds is replaced by the result, computed in one type and stored as another; gives the old value
 abbrev pub updated : BinaryOperator → (computed kept : IntegerType) → Value → Value → Does Value
 updated operator computed kept place v = do
   a ← place_of place
   old ← read a >>= of_type kept
-  x ← converted_to (Some computed) old
+  x ← converted_to (Some computed) (number old)
   y ← operated operator computed x v
   z ← converted_to (Some kept) y
   write a (Some z)
-  gives old
+  gives (number old)
 
 abbrev pub compound_assignment : BinaryOperator → (computed kept : IntegerType) → Does Value → Does Value → Does Value
 compound_assignment operator computed kept left right = do
