@@ -1,3 +1,4 @@
 mod rows
 mod Everywhere
 mod EverywhereMeaning
+mod Invariant
