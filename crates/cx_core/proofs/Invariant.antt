@@ -12,7 +12,7 @@ use Rattle.cx_core.proofs.Everywhere.{IsClosed, IsSilent}
 -- a property of states that each primitive keeps, and what it says of a trace at the end
 pub record IsInvariant (I : State → Type 0) (J : List Event → Type 0) : Type 0 where
   pub at_the_end : (s : State) → I s → J s.trace
-  pub with_budget : (s : State) (n : ℕ) → I s → I (record s { budget = n })
+  pub with_unit : (s : State) (left : ℕ) → s.budget ≡ suc (suc left) → I s → I (record s { budget = suc left })
   pub with_frame : (s : State) (frame : Frame) → I s → I (record s { frame = frame })
   pub with_living : (s : State) (living : List Living) → I s → I (record s { living = living })
   pub with_temporaries : (s : State) (temporaries : List Living) → I s → I (record s { temporaries = temporaries })
@@ -57,14 +57,14 @@ module _ (I : State → Type 0) (J : List Event → Type 0) (v : IsInvariant I J
   unfolding ends
   of_ends A answer s i = v.at_the_end s i
 
-  spend_keeps : (n : ℕ) → Keeps I J Nothing (spend_of n)
-  spend_keeps zero s i = v.at_the_end s i
-  spend_keeps (suc zero) s i = v.at_the_end s i
-  spend_keeps (suc (suc n)) s i = v.with_budget s (suc n) i
+  spend_keeps : (n : ℕ) (s : State) → s.budget ≡ n → I s → Leaves I J (spend_of n s)
+  spend_keeps zero s e i = v.at_the_end s i
+  spend_keeps (suc zero) s e i = v.at_the_end s i
+  spend_keeps (suc (suc n)) s e i = v.with_unit s n e i
 
   of_spend : Keeps I J Nothing spend
   unfolding spend
-  of_spend s i = spend_keeps s.budget s i
+  of_spend s i = spend_keeps s.budget s refl i
 
   of_append : (event : Event) → IsSilent event → Keeps I J Nothing (append event)
   unfolding append

@@ -2,3 +2,5 @@ mod rows
 mod Everywhere
 mod EverywhereMeaning
 mod Invariant
+mod BeginsTold
+mod Numbered

@@ -15,3 +15,4 @@ pub mod Meaning
 pub mod Runs
 pub mod Numbered
 pub mod Linked
+pub mod Laws
