@@ -34,7 +34,7 @@ module _ (I : State → Type 0) (J : List Event → Type 0) where
   Keeps A m = (s : State) → I s → Leaves (m s)
 
 module _ (I : State → Type 0) (J : List Event → Type 0) (v : IsInvariant I J) where
-  either_keeps : {A B : Type 0} (o : Outcome A) (next : A → Does B) (handler : Exception → Does B)
+  pub either_keeps : {A B : Type 0} (o : Outcome A) (next : A → Does B) (handler : Exception → Does B)
       → Leaves I J o → ((a : A) → Keeps I J B (next a)) → ((e : Exception) → Keeps I J B (handler e)) → Leaves I J (after o next handler)
   either_keeps (on a s) next handler h k l = k a s h
   either_keeps (thrown e s) next handler h k l = l e s h
@@ -45,11 +45,11 @@ module _ (I : State → Type 0) (J : List Event → Type 0) (v : IsInvariant I J
   unfolding either
   of_either m next handler h k l s i = either_keeps (m s) next handler (h s i) k l
 
-  of_gives : {A : Type 0} (a : A) → Keeps I J A (gives a)
+  pub of_gives : {A : Type 0} (a : A) → Keeps I J A (gives a)
   unfolding gives
   of_gives a s i = i
 
-  of_throws : (A : Type 0) (e : Exception) → Keeps I J A (throws e)
+  pub of_throws : (A : Type 0) (e : Exception) → Keeps I J A (throws e)
   unfolding throws
   of_throws A e s i = i
 
@@ -146,20 +146,20 @@ module _ (I : State → Type 0) (J : List Event → Type 0) (v : IsInvariant I J
   unfolding remove
   of_remove n s i = v.with_end s n i
 
-  if_keeps : {A : Type 0} (b : Bool) (m n : Does A) → Keeps I J A m → Keeps I J A n → Keeps I J A (if b then m else n)
+  pub if_keeps : {A : Type 0} (b : Bool) (m n : Does A) → Keeps I J A m → Keeps I J A n → Keeps I J A (if b then m else n)
   if_keeps true m n h k = h
   if_keeps false m n h k = k
 
-  then_keeps : {A B : Type 0} (m : Does A) (next : A → Does B) → Keeps I J A m → ((a : A) → Keeps I J B (next a)) → Keeps I J B (either m next throws)
+  pub then_keeps : {A B : Type 0} (m : Does A) (next : A → Does B) → Keeps I J A m → ((a : A) → Keeps I J B (next a)) → Keeps I J B (either m next throws)
   then_keeps {A} {B} m next h k = of_either m next throws h k (of_throws B)
 
-  after_turn_keeps : (step more : Does Completion) (completion : Completion) → Keeps I J Completion step → Keeps I J Completion more → Keeps I J Completion (after_turn step more completion)
+  pub after_turn_keeps : (step more : Does Completion) (completion : Completion) → Keeps I J Completion step → Keeps I J Completion more → Keeps I J Completion (after_turn step more completion)
   after_turn_keeps step more on_to_next h k = then_keeps _ _ h (λ _. k)
   after_turn_keeps step more continue h k = then_keeps _ _ h (λ _. k)
   after_turn_keeps step more break h k = of_gives _
   after_turn_keeps step more (return x) h k = of_gives _
 
-  turns_keep : (n : ℕ) (condition : Does Bool) (step body : Does Completion) → Keeps I J Bool condition → Keeps I J Completion step → Keeps I J Completion body → Keeps I J Completion (turns n condition step body)
+  pub turns_keep : (n : ℕ) (condition : Does Bool) (step body : Does Completion) → Keeps I J Bool condition → Keeps I J Completion step → Keeps I J Completion body → Keeps I J Completion (turns n condition step body)
   unfolding turns
   turns_keep zero condition step body hc hs hb = of_ends Completion _
   turns_keep (suc n) condition step body hc hs hb =

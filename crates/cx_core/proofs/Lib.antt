@@ -4,3 +4,4 @@ mod EverywhereMeaning
 mod Invariant
 mod BeginsTold
 mod Numbered
+mod LargerBudget

@@ -1,9 +1,8 @@
 -- Laws that the meaning of every program has: this project's own.
 use Rattle.std.specs.Prelude.{◌≡◌, ◌≢◌, ℕ, ◌+◌, ◌<◌, List, [], ◌∷◌, ◌++◌}
-use Rattle.cx_core.specs.Words.{Ending}
 use Rattle.cx_core.specs.Program.{Program}
 use Rattle.cx_core.specs.Store.{Value, Object, Store}
-use Rattle.cx_core.specs.Event.{Evaluation, Event, Answer, ended, begins_of}
+use Rattle.cx_core.specs.Event.{Evaluation, Event, Answer, going, begins_of}
 use Rattle.cx_core.specs.Outcome.{State, Outcome, on, thrown, over}
 use Rattle.cx_core.specs.Leaving.{Call}
 use Rattle.cx_core.specs.Meaning.{mean, calls_within, start}
@@ -13,6 +12,19 @@ abbrev pub BeginsAreTheFirstTold : Type 0
 BeginsAreTheFirstTold =
     (program : Program) (begins : List Evaluation) (input : List ℕ) (budget : ℕ) →
     (rest : List Evaluation) × (begins_of (mean program begins input budget).trace ++ rest ≡ begins)
+
+-- an answer that isn't for want of budget stays under a larger one, and the events with it
+abbrev pub LargerBudgetChangesNoEnding : Type 0
+LargerBudgetChangesNoEnding =
+    (program : Program) (begins : List Evaluation) (input : List ℕ) (budget more : ℕ) →
+    (mean program begins input budget).answer ≢ going →
+    mean program begins input (budget + more) ≡ mean program begins input budget
+
+-- under a larger budget the events go on
+abbrev pub LargerBudgetOnlyAddsEvents : Type 0
+LargerBudgetOnlyAddsEvents =
+    (program : Program) (begins : List Evaluation) (input : List ℕ) (budget more : ℕ) →
+    (rest : List Event) × ((mean program begins input budget).trace ++ rest ≡ (mean program begins input (budget + more)).trace)
 
 -- no object of the store has this number
 abbrev pub IsFree : ℕ → Store → Type 0
