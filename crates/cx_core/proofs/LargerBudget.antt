@@ -323,3 +323,38 @@ module _ (condition : Does Bool) (step body : Does Completion) (hc : Lasts Bool 
   loop_extends : (d : ℕ) (s : State) → Extends d (loop condition step body s) (loop condition step body (richer d s))
   unfolding loop
   loop_extends d s = turns_extend s.budget d s (omega arith)
+
+-- ---- the whole meaning
+
+lasting : {A : Type 0} (m : Does A) → AlwaysGrows A m → ((n : ℕ) → Keeps (AtMost n) Anything A m)
+    → ((d : ℕ) (s : State) → Extends d (m s) (m (richer d s))) → Lasts A m
+lasting m g f e = (g, (f, e))
+
+pub everything_lasts : IsClosed Lasts
+everything_lasts = record {
+  of_gives = λ a. lasting (gives a) (λ from. (grows_closed from).of_gives a) (λ n. (falls_closed n).of_gives a) (gives_extends a);
+  of_throws = λ {A} e. lasting {A = A} (throws e) (λ from. (grows_closed from).of_throws e) (λ n. (falls_closed n).of_throws e) (throws_extends A e);
+  of_ends = λ {A} answer. lasting {A = A} (ends answer) (λ from. (grows_closed from).of_ends answer) (λ n. (falls_closed n).of_ends answer) (ends_extends A answer);
+  of_either = lasting_either;
+  of_loop = λ condition step body hc hs hb. lasting (loop condition step body)
+      (λ from. (grows_closed from).of_loop condition step body (hc.0 from) (hs.0 from) (hb.0 from))
+      (λ n. (falls_closed n).of_loop condition step body (hc.1.0 n) (hs.1.0 n) (hb.1.0 n))
+      (loop_extends condition step body hc hs hb);
+  of_spend = lasting spend (λ from. (grows_closed from).of_spend) (λ n. (falls_closed n).of_spend) spend_extends;
+  of_append = λ event silent. lasting (append event) (λ from. (grows_closed from).of_append event silent) (λ n. (falls_closed n).of_append event silent) (append_extends event);
+  of_next_told = lasting next_told (λ from. (grows_closed from).of_next_told) (λ n. (falls_closed n).of_next_told) next_told_extends;
+  of_begin_told = lasting begin_told (λ from. (grows_closed from).of_begin_told) (λ n. (falls_closed n).of_begin_told) begin_told_extends;
+  of_next_byte = lasting next_byte (λ from. (grows_closed from).of_next_byte) (λ n. (falls_closed n).of_next_byte) next_byte_extends;
+  of_current_frame = lasting current_frame (λ from. (grows_closed from).of_current_frame) (λ n. (falls_closed n).of_current_frame) current_frame_extends;
+  of_current_store = lasting current_store (λ from. (grows_closed from).of_current_store) (λ n. (falls_closed n).of_current_store) current_store_extends;
+  of_current_living = lasting current_living (λ from. (grows_closed from).of_current_living) (λ n. (falls_closed n).of_current_living) current_living_extends;
+  of_current_temporaries = lasting current_temporaries (λ from. (grows_closed from).of_current_temporaries) (λ n. (falls_closed n).of_current_temporaries) current_temporaries_extends;
+  of_current_held = lasting current_held (λ from. (grows_closed from).of_current_held) (λ n. (falls_closed n).of_current_held) current_held_extends;
+  of_set_frame = λ frame. lasting (set_frame frame) (λ from. (grows_closed from).of_set_frame frame) (λ n. (falls_closed n).of_set_frame frame) (set_frame_extends frame);
+  of_set_living = λ living. lasting (set_living living) (λ from. (grows_closed from).of_set_living living) (λ n. (falls_closed n).of_set_living living) (set_living_extends living);
+  of_set_temporaries = λ temporaries. lasting (set_temporaries temporaries) (λ from. (grows_closed from).of_set_temporaries temporaries) (λ n. (falls_closed n).of_set_temporaries temporaries) (set_temporaries_extends temporaries);
+  of_set_held = λ held. lasting (set_held held) (λ from. (grows_closed from).of_set_held held) (λ n. (falls_closed n).of_set_held held) (set_held_extends held);
+  of_make = λ leaves. lasting (make leaves) (λ from. (grows_closed from).of_make leaves) (λ n. (falls_closed n).of_make leaves) (make_extends leaves);
+  of_remove = λ m. lasting (remove m) (λ from. (grows_closed from).of_remove m) (λ n. (falls_closed n).of_remove m) (remove_extends m);
+  of_write = λ a leaf. lasting (write a leaf) (λ from. (grows_closed from).of_write a leaf) (λ n. (falls_closed n).of_write a leaf) (write_extends a leaf);
+}

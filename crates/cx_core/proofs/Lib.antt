@@ -5,3 +5,4 @@ mod Invariant
 mod BeginsTold
 mod Numbered
 mod LargerBudget
+mod Budget

@@ -3,6 +3,7 @@
 
 mod choice;
 mod expression;
+pub mod laws;
 mod number;
 mod statement;
 mod unit;
