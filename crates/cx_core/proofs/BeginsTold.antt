@@ -1,8 +1,7 @@
 -- The evaluations that a run has begun and those that are still told make up the ones that were told.
-use Rattle.std.proofs.Common.{◌≡◌, refl, sym, ap, ◌∙◌, ℕ, List, [], ◌∷◌, ◌++◌, reverse, append_assoc}
+use Rattle.std.proofs.Common.{◌≡◌, refl, ap, ◌∙◌, List, [], ◌∷◌, ◌++◌, reverse, append_assoc}
 use Rattle.std.proofs.lemmas.List.{append-nil}
 use Rattle.std.proofs.lemmas.Grind.{reverse_onto}
-use Rattle.cx_core.specs.Program.{Program}
 use Rattle.cx_core.specs.Event.{Evaluation, Event, out, input, input_end, begin, verdict, handler, throw, catch, destroyed, begins_of}
 use Rattle.cx_core.specs.Store.{Value, number, address, null, violation}
 use Rattle.cx_core.specs.Outcome.{State, Outcome, on, thrown, over}
@@ -81,5 +80,5 @@ pub begins_are_the_first_told : BeginsAreTheFirstTold
 unfolding mean mean_within
 begins_are_the_first_told program begins bytes budget =
     left_at_the_end begins (calls_within program depth_limit (main_call program) (start program begins bytes budget))
-      (calls_within_of (Keeps (AreTold begins) (SomeAreLeft begins)) (invariant_is_closed _ _ (are_told begins)) program depth_limit (main_call program)
-        (start program begins bytes budget) refl)
+    (calls_within_of (Keeps (AreTold begins) (SomeAreLeft begins)) (invariant_is_closed _ _ (are_told begins)) program depth_limit (main_call program)
+    (start program begins bytes budget) refl)

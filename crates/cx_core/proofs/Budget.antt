@@ -1,15 +1,14 @@
 -- A larger budget changes no ending, and only adds events.
-use Rattle.std.proofs.Common.{◌≡◌, ◌≢◌, refl, sym, ap, subst, ◌∙◌, ℕ, ◌+◌, List, [], ◌∷◌, ◌++◌, reverse}
+use Rattle.std.proofs.Common.{◌≡◌, ◌≢◌, refl, sym, ap, ◌∙◌, ℕ, ◌+◌, List, [], ◌++◌, reverse}
 use Rattle.std.proofs.lemmas.List.{append-nil, reverse-append}
-use Rattle.cx_core.specs.Words.{Terminated, Returned, Undefined, Mixed}
 use Rattle.cx_core.specs.Program.{Program}
 use Rattle.cx_core.specs.Store.{Value, number, address, null, violation}
-use Rattle.cx_core.specs.Event.{Evaluation, Event, Answer, ended, going, waiting, not_a_run}
-use Rattle.cx_core.specs.Outcome.{State, Outcome, on, thrown, over}
+use Rattle.cx_core.specs.Event.{Evaluation, Event, ended, going, waiting, not_a_run}
+use Rattle.cx_core.specs.Outcome.{Outcome, on, thrown, over}
 use Rattle.cx_core.specs.Meaning.{Meaning, mean, mean_within, meaning_of, calls_within, main_call, start, depth_limit}
 use Rattle.cx_core.specs.Laws.{LargerBudgetChangesNoEnding, LargerBudgetOnlyAddsEvents}
 use Rattle.cx_core.proofs.EverywhereMeaning.{calls_within_of}
-use Rattle.cx_core.proofs.LargerBudget.{richer, Extends, Grows, Grown, Lasts, everything_lasts}
+use Rattle.cx_core.proofs.LargerBudget.{Extends, Grows, Grown, Lasts, everything_lasts}
 
 -- the same meaning, but where the budget of the first is spent
 same_meaning : (d : ℕ) (o o' : Outcome Value) → Extends d o o' → (meaning_of o).answer ≢ going → meaning_of o' ≡ meaning_of o

@@ -1,23 +1,22 @@
 -- What holds of the primitives of the meaning, and of what they make of parts of which it holds, holds of the whole meaning.
-use Rattle.std.proofs.Common.{rules, ℕ, zero, suc, ◌+◌, Bool, true, false, not, if◌then◌else◌, List, [], ◌∷◌, length, Option, Some, None, Result, Ok, Err, ℤ}
+use Rattle.std.proofs.Common.{ℕ, zero, suc, Bool, true, false, if◌then◌else◌, List, [], ◌∷◌, Option, Some, None, Result, Ok, Err, ℤ}
 use Rattle.cx_core.specs.declared.number.IntegerType.{IntegerType}
 use Rattle.cx_core.specs.declared.number.BinaryOperator.{BinaryOperator}
 use Rattle.cx_core.specs.declared.number.UnaryOperator.{UnaryOperator}
 use Rattle.cx_core.specs.declared.number.Query.{Query}
-use Rattle.cx_core.specs.Words.{Kind, Semantic, Ignore, Observe, Enforce, QuickEnforce, Violation, Party, Definer, Caller}
+use Rattle.cx_core.specs.Words.{Kind, Semantic, Ignore, Observe, Enforce, QuickEnforce, Violation}
 use Rattle.cx_core.specs.Tree.{ObjectType, scalar, pointer, class, Assertion, Check}
-use Rattle.cx_core.specs.Tree as tree
 use Rattle.cx_core.specs.Store.{Address, Value, number, address, null, violation, Leaf, Store, place_in}
 use Rattle.cx_core.specs.Event.{Event, begin, throw, catch, Answer, Evaluation}
-use Rattle.cx_core.specs.Outcome.{Living, whole, field, Exception, Frame, Does, Nothing, nothing, either, ◌>>=◌, ◌>>◌, gives, throws, skip, ends, undefined, defined, some, finally, undone_by, edge, current_frame, current_store, current_living, current_temporaries, current_held, set_frame, set_living, set_temporaries, set_held, append, spend, spend_all, make, remove, end_lifetime, keep, keep_temporary, place_of, read_leaf, read, write}
-use Rattle.cx_core.specs.Leaving.{Call, Calls, edge_if, within, in_unit, class_at, leaves_of_type, call_on, destroy, destroy_each, destroy_fields, destroy_object, end, end_each, scope, full_expression, constructing, object, end_unless_among, holding}
-use Rattle.cx_core.specs.Block.{Owed, Continued, continued, once_less, behind, has_stood, if_permitted, evaluations, row, total, next_told, begin_told}
+use Rattle.cx_core.specs.Outcome.{Living, whole, field, Exception, Frame, Does, Nothing, nothing, either, ◌>>=◌, ◌>>◌, gives, throws, ends, defined, some, current_frame, current_store, current_living, current_temporaries, current_held, set_frame, set_living, set_temporaries, set_held, append, spend, spend_all, make, remove, keep, keep_temporary, place_of, read, write}
+use Rattle.cx_core.specs.Leaving.{Call, Calls, edge_if, within, in_unit, leaves_of_type, call_on, destroy, destroy_each, destroy_fields, destroy_object, end, end_each, scope, full_expression, constructing, object, end_unless_among, holding}
+use Rattle.cx_core.specs.Block.{Owed, Continued, continued, once_less, behind, has_stood, if_permitted, evaluations, next_told, begin_told}
 use Rattle.cx_core.specs.Event.{same_evaluation}
-use Rattle.cx_core.specs.Check.{truth, handle_by, handle, violated, verdict_on, verdict_threw, evaluation}
-use Rattle.cx_core.specs.Operators.{bind, named, converted_to, read_as, fitting, converted, number_given, numbers_operated, pointers_operated, operated, of_type, unary_operated, unary_operation, binary_operation, logical_operation, conditional_operation, cast_operation, assignment, stored, updated, compound_assignment, step, prefix_operation, postfix_operation, indirection_of, member_of}
+use Rattle.cx_core.specs.Check.{truth, handle_by, violated, verdict_on, verdict_threw, evaluation}
+use Rattle.cx_core.specs.Operators.{bind, converted_to, read_as, converted, operated, of_type, unary_operation, binary_operation, logical_operation, conditional_operation, cast_operation, assignment, updated, compound_assignment, prefix_operation, postfix_operation, indirection_of, member_of}
 use Rattle.cx_core.specs.Library.{write_bytes, putchar_call, next_byte, getchar_call, puts_call, query_call, puts_comment_call}
 use Rattle.cx_core.specs.Program.{Program, LeafKind, number_leaf, pointer_leaf, empty_leaf, ResultKind, void, scalar_value, scalar_object, class_object, reference, exit_status}
-use Rattle.cx_core.specs.Statements.{Completion, on_to_next, break, continue, return, completed, sequence, loop, zero_leaf, zero_leaves, zero_object, call_of, call_into, call_with_object, call_giving, throw_of, rethrow_of, rethrown, handled, variable_of, reference_of, this_place, keep_field, field_of, type_name}
+use Rattle.cx_core.specs.Statements.{Completion, on_to_next, break, continue, return, sequence, loop, zero_leaf, zero_leaves, zero_object, call_of, call_into, call_with_object, call_giving, throw_of, rethrow_of, rethrown, handled, variable_of, reference_of, this_place, keep_field, field_of, type_name}
 
 -- an event other than the beginning of an evaluation
 abbrev pub IsSilent : Event → Type 0
@@ -257,8 +256,8 @@ module _ (K : (A : Type 0) → Does A → Type 0) (c : IsClosed K) where
   continued_of e [] h = tt {0}
   continued_of e (o ∷ owed) h =
       one_of_two (same_evaluation e o.evaluation) _ _
-        (once_less_of o.left o owed h.0 h.1)
-        (one_of_two (has_stood o) _ _ (behind_of o (continued e owed) h.0 (continued_of e owed h.1)) (tt {0}))
+      (once_less_of o.left o owed h.0 h.1)
+      (one_of_two (has_stood o) _ _ (behind_of o (continued e owed) h.0 (continued_of e owed h.1)) (tt {0}))
 
   if_permitted_of : (x : Option Continued) (next : Does Nothing → List Owed → Does Nothing)
       → IfContinued x → ((check : Does Nothing) (owed : List Owed) → K Nothing check → AllKept owed → K Nothing (next check owed))
@@ -271,7 +270,7 @@ module _ (K : (A : Type 0) → Does A → Type 0) (c : IsClosed K) where
   evaluations_of zero owed h = gives_of _
   evaluations_of (suc n) owed h =
       then_of _ _ next_told_of (λ e. if_permitted_of (continued e owed) _ (continued_of e owed h)
-        (λ check more hc hm. seq_of _ _ (seq_of _ _ (seq_of _ _ spend_of begin_told_of) hc) (evaluations_of n more hm)))
+      (λ check more hc hm. seq_of _ _ (seq_of _ _ (seq_of _ _ spend_of begin_told_of) hc) (evaluations_of n more hm)))
 
   -- ---- what is left behind
 
@@ -408,7 +407,7 @@ module _ (K : (A : Type 0) → Does A → Type 0) (c : IsClosed K) where
     pub throw_of_of : (type : ObjectType) (init : Address → Does Nothing) → ((a : Address) → K Nothing (init a)) → K Completion (throw_of program calls type init)
     throw_of_of type init h =
         then_of _ _ (object_of _ type init (λ l. gives_of nothing) h)
-          (λ n. seq_of _ _ spend_of (seq_of _ _ (c.of_append (throw (type_name program type)) (tt {0})) (throws_of (record { object = n; type = type }))))
+        (λ n. seq_of _ _ spend_of (seq_of _ _ (c.of_append (throw (type_name program type)) (tt {0})) (throws_of (record { object = n; type = type }))))
 
     pub rethrow_of_of : (held : List Exception) → K Completion (rethrow_of program calls held)
     rethrow_of_of [] = ends_of _

@@ -1,9 +1,9 @@
 -- What holds of the primitives holds of each tree, of each call at each depth, and so of the run of a program.
-use Rattle.std.proofs.Common.{ℕ, zero, suc, ◌+◌, Bool, true, false, if◌then◌else◌, List, [], ◌∷◌, length, map, reverse, Option, Some, None, slice_get}
+use Rattle.std.proofs.Common.{ℕ, zero, suc, ◌+◌, Bool, true, false, List, [], ◌∷◌, length, map, Option, Some, None}
 use Rattle.cx_core.specs.Words.{Party, Definer, Caller}
 use Rattle.cx_core.specs.Tree.{ObjectType, scalar, pointer, class, Expr, literal, variable, global, this, result_name, exception_object, unary, binary, logical_and, logical_or, conditional, cast, assign, compound_assign, prefix_step, postfix_step, indirection, member, call, temporary, putchar, getchar, puts, puts_comment, query, Operand, operand, Init, value, construct, zero_first, result_of, Args, no_more, by_reference, by_value, Check, CatchParameter, unnamed, Condition, always, while, Stmt, empty, expression, variable_declaration, reference_declaration, block, if_else, while_loop, for_loop, contract_assert, try, return_value, return_reference, return_object, rethrow, Stmts, done, next, Handlers, none, catch_all}
 use Rattle.cx_core.specs.Tree as tree
-use Rattle.cx_core.specs.Program.{Checks, FieldInit, Body, function, violation_handler, constructor, destructor, implicit_constructor, implicit_copy_constructor, implicit_destructor, ResultKind, void, scalar_value, scalar_object, class_object, reference, exit_status, Function, Field, Program}
+use Rattle.cx_core.specs.Program.{FieldInit, Body, function, violation_handler, constructor, destructor, implicit_constructor, implicit_copy_constructor, implicit_destructor, ResultKind, void, scalar_value, scalar_object, class_object, reference, exit_status, Function, Field, Program}
 use Rattle.cx_core.specs.Store.{Address, Value, number, address, null, violation, place_in}
 use Rattle.cx_core.specs.Event.{destroyed, handler}
 use Rattle.cx_core.specs.Outcome.{Exception, Does, Nothing, nothing, ◌>>=◌, undone_by, edge, keep, keep_temporary}
@@ -11,7 +11,6 @@ use Rattle.cx_core.specs.Check.{truth}
 use Rattle.cx_core.specs.Operators.{named}
 use Rattle.cx_core.specs.Leaving.{Call, Calls}
 use Rattle.cx_core.specs.Statements.{Completion, on_to_next, break, continue, return, completed, same_type}
-use Rattle.cx_core.specs.Block.{Owed}
 use Rattle.cx_core.specs.Meaning as meaning
 use Rattle.cx_core.specs.Meaning.{held_object, implicit_within, calls_within, is_implicit_at}
 use Rattle.cx_core.proofs.Everywhere.{IsClosed, AllKept}
@@ -28,6 +27,7 @@ module _ (K : (A : Type 0) → Does A → Type 0) (c : IsClosed K) where
   module _ (program : Program) (calls : Calls) (calls_of : (call : Call) → K Value (calls call)) where
     mutual
       unfolding meaning.expr
+
       pub expr_of : (e : Expr) → K Value (meaning.expr program calls e)
       expr_of (literal l) = every.seq_of K c _ _ c.of_spend (c.of_gives _)
       expr_of (variable slot) = every.seq_of K c _ _ c.of_spend (named_of slot)
@@ -69,7 +69,7 @@ module _ (K : (A : Type 0) → Does A → Type 0) (c : IsClosed K) where
       args_of (by_reference a rest) = every.then_of K c _ _ (expr_of a) (λ v. every.then_of K c _ _ (args_of rest) (λ vs. c.of_gives _))
       args_of (by_value type i rest) =
           every.then_of K c _ _ (every.object_of K c program calls calls_of keep type _ (every.keep_of K c) (init_of i))
-            (λ n. every.then_of K c _ _ (args_of rest) (λ vs. c.of_gives _))
+          (λ n. every.then_of K c _ _ (args_of rest) (λ vs. c.of_gives _))
 
     pub evaluated_of : (a : Operand) → K Value (meaning.evaluated program calls a)
     evaluated_of a = every.full_expression_of K c program calls calls_of _ (used_of a)
@@ -111,6 +111,7 @@ module _ (K : (A : Type 0) → Does A → Type 0) (c : IsClosed K) where
 
     mutual
       unfolding meaning.stmt
+
       pub stmt_of : (s : Stmt) → K Completion (meaning.stmt program calls s)
       stmt_of empty = c.of_gives _
       stmt_of (expression e) = completed_of _ (every.seq_of K c _ _ (every.full_expression_of K c program calls calls_of _ (expr_of e)) (c.of_gives nothing))
@@ -141,7 +142,7 @@ module _ (K : (A : Type 0) → Does A → Type 0) (c : IsClosed K) where
       handlers_of (catch_all b rest) e = every.seq_of K c _ _ c.of_spend (every.handled_of K c program calls calls_of e _ _ (c.of_gives nothing) (stmts_of b))
       handlers_of (tree.catch type parameter b rest) e = every.seq_of K c _ _ c.of_spend
           (every.if_of K c (same_type e.type type) _ _
-            (every.handled_of K c program calls calls_of e _ _ (catch_parameter_of parameter e) (stmts_of b)) (handlers_of rest e))
+          (every.handled_of K c program calls calls_of e _ _ (catch_parameter_of parameter e) (stmts_of b)) (handlers_of rest e))
 
     -- ---- calls
 
@@ -200,7 +201,7 @@ module _ (K : (A : Type 0) → Does A → Type 0) (c : IsClosed K) where
     function_call_of : (f : Function) (made : Call) (b : Stmts) → K Value (meaning.function_call program calls f made b)
     function_call_of f made b = every.seq_of K c _ _ (preconditions_of f made)
         (every.then_of K c _ _ (body_of f.result b) (λ v. every.seq_of K c _ _
-          (undone_of _ _ (naming_result_of f.result v _ (postconditions_of f made)) (destroy_result_of f.result made.result)) (c.of_gives v)))
+        (undone_of _ _ (naming_result_of f.result v _ (postconditions_of f made)) (destroy_result_of f.result made.result)) (c.of_gives v)))
 
     field_inits_of : (fields : List FieldInit) → K Nothing (meaning.field_inits program calls fields)
     field_inits_of [] = c.of_gives _
@@ -209,16 +210,16 @@ module _ (K : (A : Type 0) → Does A → Type 0) (c : IsClosed K) where
     constructor_call_of : (f : Function) (made : Call) (fields : List FieldInit) (b : Stmts) → K Value (meaning.constructor_call program calls f made fields b)
     constructor_call_of f made fields b = every.constructing_of K c program calls calls_of _
         (every.seq_of K c _ _ (preconditions_of f made) (every.seq_of K c _ _ (field_inits_of fields)
-          (every.seq_of K c _ _ (every.scope_of K c program calls calls_of _ (stmts_of b))
-            (every.seq_of K c _ _ (postconditions_of f made) (c.of_gives null)))))
+        (every.seq_of K c _ _ (every.scope_of K c program calls calls_of _ (stmts_of b))
+        (every.seq_of K c _ _ (postconditions_of f made) (c.of_gives null)))))
 
     destructor_call_of : (f : Function) (t : ℕ) (b : Stmts) → K Value (meaning.destructor_call program calls f t b)
     destructor_call_of f t b = every.then_of K c _ _ (every.this_place_of K c program calls calls_of) (λ place.
         every.then_of K c _ _ (every.some_of K c _) (λ definition.
-          every.seq_of K c _ _ (edge_of _ (every.seq_of K c _ _ (checked_of Definer f.checks.preconditions) (every.scope_of K c program calls calls_of _ (stmts_of b))))
-            (every.seq_of K c _ _ (every.destroy_fields_of K c program calls calls_of t place)
-              (every.seq_of K c _ _ (edge_of _ (checked_of Definer f.checks.postconditions))
-                (every.seq_of K c _ _ (c.of_append (destroyed definition.name place.object place.leaf) (tt {0})) (c.of_gives null))))))
+        every.seq_of K c _ _ (edge_of _ (every.seq_of K c _ _ (checked_of Definer f.checks.preconditions) (every.scope_of K c program calls calls_of _ (stmts_of b))))
+        (every.seq_of K c _ _ (every.destroy_fields_of K c program calls calls_of t place)
+        (every.seq_of K c _ _ (edge_of _ (checked_of Definer f.checks.postconditions))
+        (every.seq_of K c _ _ (c.of_append (destroyed definition.name place.object place.leaf) (tt {0})) (c.of_gives null))))))
 
     report_of : (arguments : List Value) → K Nothing (meaning.report program calls arguments)
     report_of [] = c.of_ends _
@@ -257,8 +258,8 @@ module _ (K : (A : Type 0) → Does A → Type 0) (c : IsClosed K) where
     implicit_copy_of : (t : ℕ) → K Value (meaning.implicit_copy program calls t)
     implicit_copy_of t = every.constructing_of K c program calls calls_of _
         (every.then_of K c _ _ (every.some_of K c _) (λ definition. every.then_of K c _ _ (every.this_place_of K c program calls calls_of)
-          (λ to. every.then_of K c _ _ (every.then_of K c _ _ (named_of 1) (every.place_of_of K c))
-            (λ from. every.seq_of K c _ _ (copy_members_of definition.fields from to) (c.of_gives null)))))
+        (λ to. every.then_of K c _ _ (every.then_of K c _ _ (named_of 1) (every.place_of_of K c))
+        (λ from. every.seq_of K c _ _ (copy_members_of definition.fields from to) (c.of_gives null)))))
 
     implicit_default_of : (t : ℕ) → K Value (meaning.implicit_default program calls t)
     implicit_default_of t = every.constructing_of K c program calls calls_of _
@@ -281,7 +282,7 @@ module _ (K : (A : Type 0) → Does A → Type 0) (c : IsClosed K) where
   implicit_within_of program zero counted h made = c.of_ends _
   implicit_within_of program (suc n) counted h made =
       every.if_of K c (is_implicit_at program made.function) _ _
-        (active_of program (implicit_within program n counted) (implicit_within_of program n counted h) made) (h made)
+      (active_of program (implicit_within program n counted) (implicit_within_of program n counted h) made) (h made)
 
   pub calls_within_of : (program : Program) (depth : ℕ) (made : Call) → K Value (calls_within program depth made)
   unfolding calls_within

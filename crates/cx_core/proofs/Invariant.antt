@@ -1,7 +1,7 @@
 -- What each change of a state keeps, a run keeps.
 use Rattle.std.proofs.Common.{◌≡◌, refl, ℕ, zero, suc, Bool, true, false, if◌then◌else◌, List, [], ◌∷◌, Result, Ok, Err}
 use Rattle.cx_core.specs.Words.{Kind}
-use Rattle.cx_core.specs.Store.{Address, Value, Leaf, Object, Store, without, written}
+use Rattle.cx_core.specs.Store.{Address, Value, Leaf, Store, without, written}
 use Rattle.cx_core.specs.Event.{Evaluation, Event, begin, input, input_end, Answer}
 use Rattle.cx_core.specs.Outcome.{Living, Exception, Frame, State, Outcome, on, thrown, over, Does, Nothing, after, either, gives, throws, ends, current_frame, current_store, current_living, current_temporaries, current_held, set_frame, set_living, set_temporaries, set_held, append, spend, spend_of, make, remove, write, with_store}
 use Rattle.cx_core.specs.Block.{next_told, next_of, begin_told, begin_of}
@@ -164,7 +164,7 @@ module _ (I : State → Type 0) (J : List Event → Type 0) (v : IsInvariant I J
   turns_keep zero condition step body hc hs hb = of_ends Completion _
   turns_keep (suc n) condition step body hc hs hb =
       then_keeps _ _ of_spend (λ _. then_keeps _ _ hc (λ b. if_keeps b _ _
-        (then_keeps _ _ hb (λ completion. after_turn_keeps step _ completion hs (turns_keep n condition step body hc hs hb))) (of_gives _)))
+      (then_keeps _ _ hb (λ completion. after_turn_keeps step _ completion hs (turns_keep n condition step body hc hs hb))) (of_gives _)))
 
   of_loop : (condition : Does Bool) (step body : Does Completion) → Keeps I J Bool condition → Keeps I J Completion step → Keeps I J Completion body → Keeps I J Completion (loop condition step body)
   unfolding loop

@@ -1,13 +1,13 @@
 -- A run under a larger budget goes the same way, and further.
-use Rattle.std.proofs.Common.{◌≡◌, ◌≢◌, refl, sym, ap, subst, ◌∙◌, arith, ℕ, zero, suc, ◌+◌, ◌<◌, ◌≤◌, Bool, true, false, if◌then◌else◌, List, [], ◌∷◌, ◌++◌, reverse, append_assoc, Option, Some, None, Result, Ok, Err}
+use Rattle.std.proofs.Common.{◌≡◌, refl, sym, ap, subst, ◌∙◌, arith, ℕ, zero, suc, ◌+◌, ◌≤◌, Bool, true, false, if◌then◌else◌, List, [], ◌∷◌, ◌++◌, Result, Ok, Err}
 use Rattle.cx_core.specs.Words.{Kind}
-use Rattle.cx_core.specs.Store.{Address, Value, number, address, null, violation, Leaf, Store, written}
+use Rattle.cx_core.specs.Store.{Address, Leaf, Store, written}
 use Rattle.cx_core.specs.Event.{Evaluation, Event, Answer, ended, going, waiting, not_a_run}
-use Rattle.cx_core.specs.Outcome.{Living, Exception, Frame, State, Outcome, on, thrown, over, Does, Nothing, nothing, after, either, gives, throws, ends, current_frame, current_store, current_living, current_temporaries, current_held, set_frame, set_living, set_temporaries, set_held, append, spend, spend_of, make, remove, write, with_store}
+use Rattle.cx_core.specs.Outcome.{Living, Exception, Frame, State, Outcome, on, thrown, over, Does, nothing, after, either, gives, throws, ends, current_frame, current_store, current_living, current_temporaries, current_held, set_frame, set_living, set_temporaries, set_held, append, spend, spend_of, make, remove, write, with_store}
 use Rattle.cx_core.specs.Block.{next_told, next_of, begin_told, begin_of}
 use Rattle.cx_core.specs.Library.{next_byte, read_byte}
 use Rattle.cx_core.specs.Statements.{Completion, on_to_next, break, continue, return, turns, loop, after_turn}
-use Rattle.cx_core.proofs.Everywhere.{IsClosed, IsSilent}
+use Rattle.cx_core.proofs.Everywhere.{IsClosed}
 use Rattle.cx_core.proofs.Invariant.{IsInvariant, Leaves, Keeps, invariant_is_closed, either_keeps, then_keeps, if_keeps, after_turn_keeps, turns_keep}
 use Rattle.cx_core.proofs.Invariant as invariant
 
@@ -119,11 +119,14 @@ always (over answer trace) = tt {0}
 lasting_either : {A B : Type 0} (m : Does A) (next : A → Does B) (handler : Exception → Does B)
     → Lasts A m → ((a : A) → Lasts B (next a)) → ((e : Exception) → Lasts B (handler e)) → Lasts B (either m next handler)
 unfolding either
-lasting_either m next handler h k l =
-    (λ from. (grows_closed from).of_either m next handler (h.0 from) (λ a. (k a).0 from) (λ e. (l e).0 from),
-    (λ n. (falls_closed n).of_either m next handler (h.1.0 n) (λ a. (k a).1.0 n) (λ e. (l e).1.0 n),
+lasting_either m next handler h k l = (
+  λ from. (grows_closed from).of_either m next handler (h.0 from) (λ a. (k a).0 from) (λ e. (l e).0 from),
+  (
+    λ n. (falls_closed n).of_either m next handler (h.1.0 n) (λ a. (k a).1.0 n) (λ e. (l e).1.0 n),
     λ d s. extends_after Always d (m s) (m (richer d s)) next next handler handler (h.1.1 d s) (always (m s))
-      (λ a t p. (k a).1.1 d t) (λ e t p. (l e).1.1 d t) (λ a. (k a).0) (λ e. (l e).0)))
+        (λ a t p. (k a).1.1 d t) (λ e t p. (l e).1.1 d t) (λ a. (k a).0) (λ e. (l e).0),
+  ),
+)
 
 gives_extends : {A : Type 0} (a : A) (d : ℕ) (s : State) → Extends d (gives a s) (gives a (richer d s))
 unfolding gives
@@ -280,10 +283,10 @@ module _ (condition : Does Bool) (step body : Does Completion) (hc : Lasts Bool 
   unfolding either gives
   after_turn_extends n m d on_to_next ih s h =
       extends_after (AtMost n) d (step s) (step (richer d s)) _ _ throws throws (hs.1.1 d s) (hs.1.0 n s h)
-        (λ _ t k. ih t k) (λ e t k. throws_extends Completion e d t) (λ _. turns_grow m) throws_grows
+      (λ _ t k. ih t k) (λ e t k. throws_extends Completion e d t) (λ _. turns_grow m) throws_grows
   after_turn_extends n m d continue ih s h =
       extends_after (AtMost n) d (step s) (step (richer d s)) _ _ throws throws (hs.1.1 d s) (hs.1.0 n s h)
-        (λ _ t k. ih t k) (λ e t k. throws_extends Completion e d t) (λ _. turns_grow m) throws_grows
+      (λ _ t k. ih t k) (λ e t k. throws_extends Completion e d t) (λ _. turns_grow m) throws_grows
   after_turn_extends n m d break ih s h = refl
   after_turn_extends n m d (return v) ih s h = refl
 
@@ -291,7 +294,7 @@ module _ (condition : Does Bool) (step body : Does Completion) (hc : Lasts Bool 
   unfolding either
   rest_extends n m d true ih s h =
       extends_after (AtMost n) d (body s) (body (richer d s)) _ _ throws throws (hb.1.1 d s) (hb.1.0 n s h)
-        (λ completion t k. after_turn_extends n m d completion ih t k) (λ e t k. throws_extends Completion e d t) (after_turn_grows m) throws_grows
+      (λ completion t k. after_turn_extends n m d completion ih t k) (λ e t k. throws_extends Completion e d t) (after_turn_grows m) throws_grows
   rest_extends n m d false ih s h = gives_extends on_to_next d s
 
   condition_extends : (n m d : ℕ) → TurnsExtend n m d → (s : State) → s.budget ≤ n
@@ -299,7 +302,7 @@ module _ (condition : Does Bool) (step body : Does Completion) (hc : Lasts Bool 
   unfolding either
   condition_extends n m d ih s h =
       extends_after (AtMost n) d (condition s) (condition (richer d s)) _ _ throws throws (hc.1.1 d s) (hc.1.0 n s h)
-        (λ b t k. rest_extends n m d b ih t k) (λ e t k. throws_extends Completion e d t) (rest_grows m) throws_grows
+      (λ b t k. rest_extends n m d b ih t k) (λ e t k. throws_extends Completion e d t) (rest_grows m) throws_grows
 
   condition_grows : (n : ℕ) → AlwaysGrows Completion (either condition (rest_of_turn n) throws)
   condition_grows n from = then_keeps (GrownFrom from) (Grown from) (events_are_added from) condition _ (hc.0 from) (λ b. rest_grows n b from)
@@ -308,7 +311,7 @@ module _ (condition : Does Bool) (step body : Does Completion) (hc : Lasts Bool 
   unfolding turns either
   turn_extends n m d ih s h =
       extends_after (AtMost n) d (spend s) (spend (richer d s)) _ _ throws throws (spend_extends d s) (spend_below n s h)
-        (λ _ t k. condition_extends n m d ih t k) (λ e t k. throws_extends Completion e d t) (λ _. condition_grows m) throws_grows
+      (λ _ t k. condition_extends n m d ih t k) (λ e t k. throws_extends Completion e d t) (λ _. condition_grows m) throws_grows
 
   no_turn_extends : (m d : ℕ) → TurnsExtend zero m d
   unfolding turns ends

@@ -1,13 +1,11 @@
 -- The numbers of the objects of a store differ, and are below the next one.
-use Rattle.std.proofs.Common.{◌≡◌, ◌≢◌, refl, sym, ap, subst, ◌∙◌, arith, ℕ, zero, suc, ◌+◌, ◌<◌, Bool, true, false, if◌then◌else◌, nat_eq, nat_lt, length, List, [], ◌∷◌, Option, Some, None, Result, Ok, Err}
+use Rattle.std.proofs.Common.{◌≡◌, refl, subst, arith, ℕ, suc, ◌+◌, ◌<◌, Bool, true, false, if◌then◌else◌, nat_eq, nat_lt, length, List, [], ◌∷◌, Option, Some, None, Result, Ok, Err}
 use Rattle.cx_core.specs.Words.{Kind}
 use Rattle.cx_core.specs.Tree.{Constant}
-use Rattle.cx_core.specs.Program.{Program}
-use Rattle.cx_core.specs.Store.{Address, Value, Leaf, Object, Store, without, with_leaves, with_leaf, written, leaves_of}
+use Rattle.cx_core.specs.Store.{Address, Value, Leaf, Store, without, with_leaves, with_leaf, leaves_of}
 use Rattle.cx_core.specs.Event.{Event}
 use Rattle.cx_core.specs.Outcome.{State, Outcome, on, thrown, over}
-use Rattle.cx_core.specs.Leaving.{Call}
-use Rattle.cx_core.specs.Meaning.{calls_within, start, globals_from}
+use Rattle.cx_core.specs.Meaning.{calls_within, globals_from}
 use Rattle.cx_core.specs.Laws.{IsFree, IsNumbered, LeavesNumbered, ObjectsStayNumbered}
 use Rattle.cx_core.proofs.EverywhereMeaning.{calls_within_of}
 use Rattle.cx_core.proofs.Invariant.{IsInvariant, Leaves, Keeps, invariant_is_closed}
@@ -104,7 +102,8 @@ globals_numbered next n (g ∷ globals) e =
     (omega (arith, e), (free_below n (suc n) globals (omega arith), globals_numbered next (suc n) globals (omega (arith, e))))
 
 pub objects_stay_numbered : ObjectsStayNumbered
-objects_stay_numbered =
-    ((λ program begins bytes budget. globals_numbered (length program.globals + 1) 1 program.globals refl),
-    (λ program depth call s h. leaves_numbered (calls_within program depth call s)
-      (calls_within_of (Keeps StateIsNumbered Anything) (invariant_is_closed _ _ is_numbered) program depth call s h)))
+objects_stay_numbered = (
+  (λ program begins bytes budget. globals_numbered (length program.globals + 1) 1 program.globals refl),
+  (λ program depth call s h. leaves_numbered (calls_within program depth call s)
+      (calls_within_of (Keeps StateIsNumbered Anything) (invariant_is_closed _ _ is_numbered) program depth call s h)),
+)

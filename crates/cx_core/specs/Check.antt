@@ -1,13 +1,13 @@
 -- What one evaluation of a contract assertion does: [basic.contract.eval] and [basic.contract.handler] of P2900R14, with this project's own rule that a chosen predicate is always evaluated.
-use Rattle.std.specs.Prelude.{Bool, true, false, not, if◌then◌else◌, ℕ, List, [], ◌∷◌, Option, Some, None, pos}
+use Rattle.std.specs.Prelude.{Bool, true, false, not, ℕ, [], ◌∷◌, Option, Some, None, pos}
 use Rattle.std.specs.Ordering.{int_eq}
 use Rattle.cx_core.specs.Words.{Semantic, Ignore, Observe, Enforce, QuickEnforce, Holds, False, Threw, Mode, PredicateFalse, EvaluationException, Mixed, ContractTerminated, Violation}
 use Rattle.cx_core.specs.Tree.{Assertion, Check}
 use Rattle.cx_core.specs.Program.{Program}
-use Rattle.cx_core.specs.Store.{Address, Value, number, address, null, violation}
+use Rattle.cx_core.specs.Store.{Value, number, address, null, violation}
 use Rattle.cx_core.specs.Event.{verdict, handler, ended}
-use Rattle.cx_core.specs.Outcome.{Exception, Frame, Does, Nothing, either, ◌>>=◌, ◌>>◌, gives, skip, ends, undefined, current_frame, append}
-use Rattle.cx_core.specs.Leaving.{Call, Calls, holding}
+use Rattle.cx_core.specs.Outcome.{Exception, Does, Nothing, either, ◌>>=◌, ◌>>◌, gives, skip, ends, undefined, current_frame, append}
+use Rattle.cx_core.specs.Leaving.{Calls, holding}
 
 abbrev pub violation_of : Assertion → Mode → Semantic → Violation
 violation_of a mode semantic = record {

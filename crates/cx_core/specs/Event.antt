@@ -1,5 +1,5 @@
 -- What a run does that can be seen from outside, by names and as plain data: this project's own, for the evaluations, verdicts and handler calls of [basic.contract.eval] and [basic.contract.handler] in P2900R14, and the exceptions and destructions of [except] and [class.dtor].
-use Rattle.std.specs.Prelude.{ℕ, List, [], ◌∷◌, Bool, false, ◌&&◌, nat_eq, bytes_eq}
+use Rattle.std.specs.Prelude.{ℕ, List, [], ◌∷◌, Bool, ◌&&◌, nat_eq, bytes_eq}
 use Rattle.cx_core.specs.Words.{Party, Definer, Caller, Semantic, Ignore, Observe, Enforce, QuickEnforce, Verdict, Violation, Ending}
 
 -- an evaluation of an assertion, as it begins

@@ -1,8 +1,8 @@
 -- Laws that the meaning of every program has: this project's own.
 use Rattle.std.specs.Prelude.{◌≡◌, ◌≢◌, ℕ, ◌+◌, ◌<◌, List, [], ◌∷◌, ◌++◌}
 use Rattle.cx_core.specs.Program.{Program}
-use Rattle.cx_core.specs.Store.{Value, Object, Store}
-use Rattle.cx_core.specs.Event.{Evaluation, Event, Answer, going, begins_of}
+use Rattle.cx_core.specs.Store.{Value, Store}
+use Rattle.cx_core.specs.Event.{Evaluation, Event, going, begins_of}
 use Rattle.cx_core.specs.Outcome.{State, Outcome, on, thrown, over}
 use Rattle.cx_core.specs.Leaving.{Call}
 use Rattle.cx_core.specs.Meaning.{mean, calls_within, start}
@@ -46,5 +46,5 @@ LeavesNumbered (over answer trace) = Unit {0}
 abbrev pub ObjectsStayNumbered : Type 0
 ObjectsStayNumbered =
     ((program : Program) (begins : List Evaluation) (input : List ℕ) (budget : ℕ) →
-        IsNumbered (start program begins input budget).next (start program begins input budget).store)
+    IsNumbered (start program begins input budget).next (start program begins input budget).store)
     × ((program : Program) (depth : ℕ) (call : Call) (s : State) → IsNumbered s.next s.store → LeavesNumbered (calls_within program depth call s))

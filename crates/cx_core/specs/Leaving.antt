@@ -1,5 +1,5 @@
 -- What is done where a scope, a full-expression, a constructor, a handler or a call is left, in whatever way: [stmt.jump.general], [class.temporary], [except.ctor], [except.terminate] and [class.dtor] of the C++ draft, with this project's own end at the edge where `std::terminate` is due.
-use Rattle.std.specs.Prelude.{ℕ, Bool, true, false, ◌||◌, ◌++◌, if◌then◌else◌, nat_eq, List, [], ◌∷◌, length, drop, reverse, Option, Some, None, slice_get}
+use Rattle.std.specs.Prelude.{ℕ, Bool, false, ◌||◌, if◌then◌else◌, nat_eq, List, [], ◌∷◌, length, reverse, Option, None, slice_get}
 use Rattle.cx_core.specs.Tree.{ObjectType, scalar, pointer, class}
 use Rattle.cx_core.specs.Store.{Address, Value, address, place_in}
 use Rattle.cx_core.specs.Outcome.{Living, whole, field, Exception, Frame, Does, Nothing, either, ◌>>=◌, ◌>>◌, gives, throws, skip, some, finally, undone_by, edge, current_frame, set_frame, current_living, set_living, current_temporaries, set_temporaries, current_held, set_held, make, end_lifetime}
@@ -135,5 +135,5 @@ module _ (program : Program) (calls : Calls) where
     held ← current_held
     set_held (e ∷ held)
     either m
-      (λ a. set_held held >> end_unless_among e held >> gives a)
-      (λ x. set_held held >> end_unless_among e (x ∷ held) >> throws x)
+        (λ a. set_held held >> end_unless_among e held >> gives a)
+        (λ x. set_held held >> end_unless_among e (x ∷ held) >> throws x)

@@ -1,12 +1,12 @@
 -- The library functions that the profile has, and what a handler asks of its violation: [cstdio.syn] and [support.contract.violation], with this project's own bytes, numbers and value of `puts`.
-use Rattle.std.specs.Prelude.{ℕ, Bool, List, [], ◌∷◌, ◌++◌, Option, Some, None, ℤ, pos, negsuc, nat_eq, unsigned_abs}
+use Rattle.std.specs.Prelude.{ℕ, List, [], ◌∷◌, ◌++◌, Option, Some, None, ℤ, pos, negsuc, nat_eq, unsigned_abs}
 use Rattle.std.specs.Int.{int_rem_euclid}
 use Rattle.std.specs.List.{before_first}
 use Rattle.cx_core.specs.declared.number.Query.{Query}
 use Rattle.cx_core.specs.declared.number.Query.TheVariants as queries
 use Rattle.cx_core.specs.Words.{AssertionKind, Pre, Post, Assert, Mode, PredicateFalse, EvaluationException, Violation}
-use Rattle.cx_core.specs.Store.{Address, Value, number, address, null, violation}
-use Rattle.cx_core.specs.Event.{Event, out, input, input_end, semantic_number}
+use Rattle.cx_core.specs.Store.{Value, number, violation}
+use Rattle.cx_core.specs.Event.{out, input, input_end, semantic_number}
 use Rattle.cx_core.specs.Outcome.{State, Outcome, on, Does, Nothing, ◌>>=◌, ◌>>◌, gives, skip, some, append, spend, spend_all}
 use Rattle.cx_core.specs.Operators.{number_of}
 

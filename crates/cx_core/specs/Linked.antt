@@ -1,5 +1,5 @@
 -- The program of a set of units under their plan: one number for each function, class and global that the units name, one definition for each function, and the checks of both parties; [basic.link] and [basic.def.odr] of the C++ draft, with this project's own plan and choice of the checking parties.
-use Rattle.std.specs.Prelude.{ℕ, zero, suc, ◌+◌, Bool, true, false, ◌||◌, if◌then◌else◌, List, [], ◌∷◌, ◌++◌, map, reverse, Option, Some, None, bytes_eq, slice_get, codes}
+use Rattle.std.specs.Prelude.{ℕ, suc, ◌+◌, Bool, true, false, ◌||◌, if◌then◌else◌, List, [], ◌∷◌, map, Option, Some, None, bytes_eq, slice_get, codes}
 use Rattle.std.specs.List.{flat_map}
 use Rattle.cx_core.specs.Words.{Semantic, Ignore, Observe, Enforce, QuickEnforce}
 use Rattle.cx_core.specs.declared.choice.Calls.{Calls}
@@ -8,9 +8,7 @@ use Rattle.cx_core.specs.declared.choice.Choice.{Choice}
 use Rattle.cx_core.specs.declared.unit.CoreUnit.{CoreUnit}
 use Rattle.cx_core.specs.declared.unit.Class as unit_class
 use Rattle.cx_core.specs.declared.unit.ClassDefinition.{ClassDefinition}
-use Rattle.cx_core.specs.declared.unit.Field as unit_field
 use Rattle.cx_core.specs.declared.unit.Function as unit_function
-use Rattle.cx_core.specs.declared.unit.Global as unit_global
 use Rattle.cx_core.specs.declared.unit.Specifier.{Specifier}
 use Rattle.cx_core.specs.declared.unit.Assertion as unit_assertion
 use Rattle.cx_core.specs.declared.unit.FieldInitializer.{FieldInitializer}

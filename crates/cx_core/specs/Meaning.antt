@@ -1,12 +1,12 @@
 -- What a program means: a recursion over its trees, one clause for each production, after [expr], [stmt], [class.ctor], [class.dtor] and [except] of the C++ draft and [basic.contract.eval] of P2900R14; the order of evaluation, the budget, the depth of calls and the globals' numbers are this project's own.
 use Rattle.std.specs.Prelude.{ℕ, zero, suc, ◌+◌, Bool, true, false, if◌then◌else◌, List, [], ◌∷◌, length, map, reverse, Option, Some, None, pos, slice_get}
-use Rattle.cx_core.specs.Words.{Party, Definer, Caller, Semantic, Flow, Mixed, Returned, Terminated, TooDeep, Undefined}
+use Rattle.cx_core.specs.Words.{Party, Definer, Caller, Flow, Mixed, Returned, Terminated, TooDeep, Undefined}
 use Rattle.cx_core.specs.Tree.{ObjectType, class, Constant, Expr, literal, variable, global, this, result_name, exception_object, unary, binary, logical_and, logical_or, conditional, cast, assign, compound_assign, prefix_step, postfix_step, indirection, member, call, temporary, putchar, getchar, puts, puts_comment, query, Operand, operand, Init, value, construct, zero_first, result_of, Args, no_more, by_reference, by_value, Check, CatchParameter, unnamed, Condition, always, while, Stmt, empty, expression, variable_declaration, reference_declaration, block, if_else, while_loop, for_loop, contract_assert, try, return_value, return_reference, return_object, rethrow, Stmts, done, next, Handlers, none, catch_all}
 use Rattle.cx_core.specs.Tree as tree
-use Rattle.cx_core.specs.Program.{Checks, FieldInit, Body, function, violation_handler, constructor, destructor, implicit_constructor, implicit_copy_constructor, implicit_destructor, is_counted, ResultKind, void, scalar_value, scalar_object, class_object, reference, exit_status, Function, Field, Class, Program}
+use Rattle.cx_core.specs.Program.{Checks, FieldInit, Body, function, violation_handler, constructor, destructor, implicit_constructor, implicit_copy_constructor, implicit_destructor, is_counted, ResultKind, void, class_object, reference, exit_status, Function, Field, Program}
 use Rattle.cx_core.specs.Store.{Address, Value, number, address, null, violation, Object, place_in}
 use Rattle.cx_core.specs.Event.{Evaluation, Event, handler, destroyed, Answer, ended}
-use Rattle.cx_core.specs.Outcome.{Exception, Frame, State, Outcome, on, thrown, over, Does, Nothing, nothing, either, ◌>>=◌, ◌>>◌, gives, throws, skip, ends, undefined, some, undone_by, edge, current_frame, current_store, current_living, current_temporaries, current_held, set_frame, set_living, set_temporaries, set_held, append, spend, make, remove, keep, keep_temporary, place_of, read_leaf, write}
+use Rattle.cx_core.specs.Outcome.{Exception, State, Outcome, on, thrown, over, Does, Nothing, nothing, either, ◌>>=◌, ◌>>◌, gives, throws, skip, ends, undefined, some, undone_by, edge, current_frame, current_store, current_living, current_temporaries, current_held, set_frame, set_living, set_temporaries, set_held, append, spend, make, remove, keep, keep_temporary, place_of, read_leaf, write}
 use Rattle.cx_core.specs.Leaving.{Call, Calls, edge_if, within, in_unit, class_at, call_on, destroy, destroy_fields, scope, full_expression, constructing, object}
 use Rattle.cx_core.specs.Block.{Owed, row, evaluations, next_told, begin_told}
 use Rattle.cx_core.specs.Check.{truth, evaluation}

@@ -9,12 +9,10 @@ use Rattle.cx_core.specs.declared.expression.Expression.{Expression, fold-Expres
 use Rattle.cx_core.specs.declared.expression.Operand.{fold-Operand}
 use Rattle.cx_core.specs.declared.expression.Operand as rust
 use Rattle.cx_core.specs.declared.expression.Initializer.{Initializer, fold-Initializer}
-use Rattle.cx_core.specs.declared.expression.Argument.{Argument, fold-Argument}
 use Rattle.cx_core.specs.declared.expression.Argument.TheOpen.{Argument-F, Expression-F, Initializer-F, Operand-F}
 use Rattle.cx_core.specs.declared.statement.CatchParameter.{CatchParameter}
 use Rattle.cx_core.specs.declared.statement.CatchParameter.TheVariants as parameters
 use Rattle.cx_core.specs.declared.statement.Statement.{Statement, fold-Statement}
-use Rattle.cx_core.specs.declared.statement.Handler.{Handler}
 use Rattle.cx_core.specs.declared.statement.Statement.TheOpen.{Handler-F, Statement-F}
 use Rattle.cx_core.specs.Tree as tree
 use Rattle.cx_core.specs.Tree.{ObjectType, scalar, pointer, class, Expr, Init, Args, no_more, Stmt, Stmts, done, next, Handlers}

@@ -1,5 +1,5 @@
 -- What each operator does, given what its operands do: [expr] of the C++ draft, with the order of evaluation and the kinds of undefined behaviour that this project fixes.
-use Rattle.std.specs.Prelude.{ℕ, ◌+◌, Bool, true, false, not, ◌&&◌, if◌then◌else◌, nat_eq, List, [], ◌∷◌, Option, Some, None, Result, ℤ, pos}
+use Rattle.std.specs.Prelude.{ℕ, Bool, true, false, not, ◌&&◌, if◌then◌else◌, nat_eq, List, [], ◌∷◌, Option, Some, None, Result, ℤ, pos}
 use Rattle.cx_types.specs.declared.value_type.Scalar.{Scalar}
 use Rattle.cx_types.specs.declared.value_type.Scalar.TheVariants as scalars
 use Rattle.cx_core.specs.declared.number.IntegerType.{IntegerType}
@@ -12,8 +12,8 @@ use Rattle.cx_core.specs.Number.{in_range, promoted, converted_number, truth_num
 use Rattle.cx_core.specs.Tree.{ObjectType, scalar, pointer, class}
 use Rattle.cx_core.specs.Tree.{Constant}
 use Rattle.cx_core.specs.Tree as tree
-use Rattle.cx_core.specs.Store.{Address, Value, number, address, null, violation, place_in, leaf_at}
-use Rattle.cx_core.specs.Outcome.{Frame, Does, Nothing, ◌>>=◌, ◌>>◌, gives, undefined, defined, some, current_frame, set_frame, spend, place_of, read_leaf, read, write}
+use Rattle.cx_core.specs.Store.{Address, Value, number, address, null, violation, place_in}
+use Rattle.cx_core.specs.Outcome.{Does, Nothing, ◌>>=◌, ◌>>◌, gives, undefined, defined, some, current_frame, set_frame, spend, place_of, read_leaf, read, write}
 use Rattle.cx_core.specs.Check.{truth}
 
 abbrev pub constant : Constant → Value

@@ -1,8 +1,8 @@
 -- A run as far as it has come, what a part of it comes to, and how parts follow each other: this project's own form of control flow, exceptions and termination.
-use Rattle.std.specs.Prelude.{ℕ, zero, suc, List, [], ◌∷◌, Option, Some, None, Result, Ok, Err, replicate}
+use Rattle.std.specs.Prelude.{ℕ, zero, suc, List, ◌∷◌, Option, Some, None, Result, Ok, Err, replicate}
 use Rattle.cx_core.specs.Words.{Kind, Null, Mixed, Undefined, Terminated}
 use Rattle.cx_core.specs.Tree.{ObjectType}
-use Rattle.cx_core.specs.Store.{Address, Value, number, address, null, violation, Leaf, Object, Store, without, written, leaf_at, value_of}
+use Rattle.cx_core.specs.Store.{Address, Value, number, address, null, violation, Leaf, Store, without, written, leaf_at, value_of}
 use Rattle.cx_core.specs.Event.{Evaluation, Event, Answer, ended, going}
 
 -- a live object of a scope: one with a number, or a class field of an object under construction

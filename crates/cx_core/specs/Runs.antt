@@ -1,8 +1,9 @@
 -- Which runs a program permits, whole or cut at a limit of steps: this project's own, as is the factor between the steps of a machine and the units of the budget.
 use Rattle.std.specs.Prelude.{◌≡◌, ◌≢◌, ℕ, ◌+◌, ◌-◌, ◌*◌, ◌/◌, ◌<◌, List, ◌++◌}
-use Rattle.cx_core.specs.Words.{Ending, Returned, ContractTerminated, Terminated, Undefined, TooDeep, StepsSpent, Stopped, NotStarted}
+use Rattle.std.specs.List.{All}
+use Rattle.cx_core.specs.Words.{Ending, StepsSpent}
 use Rattle.cx_core.specs.Program.{Program}
-use Rattle.cx_core.specs.Event.{Evaluation, Event, Answer, ended, going, not_a_run, begins_of}
+use Rattle.cx_core.specs.Event.{Event, ended, going, not_a_run, begins_of}
 use Rattle.cx_core.specs.Meaning.{Meaning, mean}
 
 abbrev pub IsPrefix : List Event → List Event → Type 0
@@ -42,9 +43,12 @@ abbrev pub IsPermitted : Program → List ℕ → ℕ → List Event → ℕ →
 IsPermitted program input limit journal steps StepsSpent = IsCutRun program input journal limit
 IsPermitted program input limit journal steps ending = IsRun program input journal ending steps
 
--- whatever the input and the limit, the machine's run is one that the program permits
+abbrev pub AreBytes : List ℕ → Type 0
+AreBytes input = All (λ b. b < 256) input
+
+-- whatever the bytes of the input and the limit, the machine's run is one that the program permits
 abbrev pub IsFaithful : (List ℕ → ℕ → MachineRun) → Program → Type 0
 IsFaithful machine program =
-    (input : List ℕ) (limit : ℕ) → 0 < limit →
+    (input : List ℕ) (limit : ℕ) → AreBytes input → 0 < limit →
     let run = machine input limit in
     IsPermitted program input limit run.journal run.steps run.ending

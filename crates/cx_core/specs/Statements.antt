@@ -1,14 +1,13 @@
 -- What statements, initialisations and calls do, given what their parts do: [stmt], [dcl.init], [expr.call] and [except] of the C++ draft, with this project's own object numbers and lifetimes of parameters.
-use Rattle.std.specs.Prelude.{ℕ, zero, suc, ◌+◌, Bool, true, false, if◌then◌else◌, List, [], ◌∷◌, Option, Some, None, bytes_eq, nat_eq, slice_get, pos}
+use Rattle.std.specs.Prelude.{ℕ, zero, suc, Bool, true, false, if◌then◌else◌, List, [], ◌∷◌, Option, Some, None, nat_eq, slice_get, pos}
 use Rattle.cx_types.specs.Scalar.{scalar_name, same_scalar}
-use Rattle.cx_core.specs.Words.{Mixed, Flow, Terminated}
+use Rattle.cx_core.specs.Words.{Terminated}
 use Rattle.cx_core.specs.Tree.{ObjectType, scalar, pointer, class}
-use Rattle.cx_core.specs.Store.{Address, Value, number, address, null, violation, Leaf, place_in}
-use Rattle.cx_core.specs.Event.{Event, throw, catch, ended, going}
-use Rattle.cx_core.specs.Outcome.{Living, whole, field, Exception, Frame, State, Does, Nothing, ◌>>=◌, ◌>>◌, gives, throws, skip, ends, undone_by, edge, current_frame, current_held, append, spend, spend_all, make, end_lifetime, keep, place_of, read, write}
-use Rattle.cx_core.specs.Program.{Program, Class, LeafKind, number_leaf, pointer_leaf, empty_leaf, ResultKind, void, scalar_value, scalar_object, class_object, reference, exit_status}
-use Rattle.cx_core.specs.Leaving.{Call, Calls, class_at, scope, full_expression, object, holding}
-use Rattle.cx_core.specs.Check.{truth}
+use Rattle.cx_core.specs.Store.{Address, Value, number, address, null, place_in}
+use Rattle.cx_core.specs.Event.{throw, catch, ended, going}
+use Rattle.cx_core.specs.Outcome.{field, Exception, Does, Nothing, ◌>>=◌, ◌>>◌, gives, throws, skip, ends, undone_by, edge, current_frame, current_held, append, spend, spend_all, make, end_lifetime, keep, place_of, read, write}
+use Rattle.cx_core.specs.Program.{Program, Class, LeafKind, number_leaf, pointer_leaf, empty_leaf, ResultKind, scalar_object}
+use Rattle.cx_core.specs.Leaving.{Calls, class_at, scope, full_expression, object, holding}
 use Rattle.cx_core.specs.Operators.{bind, named}
 
 -- how a statement is left, unless by an exception or the end of the run

@@ -1,5 +1,5 @@
 -- Objects, their leaves and their lifetimes: [intro.object] and [basic.life] of the C++ draft, with this project's own object numbers, leaves and unset leaves.
-use Rattle.std.specs.Prelude.{ℕ, ◌+◌, Bool, ℤ, List, [], ◌∷◌, Option, Some, None, Result, Ok, Err, slice_get, slice_set, nat_eq, nat_lt, length, if◌then◌else◌}
+use Rattle.std.specs.Prelude.{ℕ, ◌+◌, ℤ, List, [], ◌∷◌, Option, Some, None, Result, Ok, Err, slice_get, slice_set, nat_eq, nat_lt, length, if◌then◌else◌}
 use Rattle.cx_core.specs.Words.{Kind, Dead, Unset, Violation}
 
 -- an object's number and the place of a leaf in it

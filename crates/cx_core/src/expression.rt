@@ -35,13 +35,7 @@ pub enum Expression {
     Cast(Box<Operand>),
     Assign(Box<Expression>, Box<Operand>),
     /// The operator, the type in which it computes, the type of the left operand, and both operands.
-    CompoundAssign(
-        BinaryOperator,
-        IntegerType,
-        IntegerType,
-        Box<Expression>,
-        Box<Operand>,
-    ),
+    CompoundAssign(BinaryOperator, IntegerType, IntegerType, Box<Expression>, Box<Operand>),
     /// `++` and `--` before an operand of the type, by the operator that they are short for.
     PrefixStep(BinaryOperator, IntegerType, Box<Expression>),
     /// The same after it.

@@ -4,24 +4,20 @@ ghost use Rattle.cx_core.specs.Laws.{BeginsAreTheFirstTold, LargerBudgetChangesN
 /// The evaluations that a run begins are the first of those that it is told.
 pub fn begins_are_the_first_told()
     ensures { BeginsAreTheFirstTold }
-{
-}
+{}
 
 /// An ending stays as it is under each larger budget, with the events before it; so does the answer that the run waits
 /// for an evaluation, and the answer that it is no run.
 pub fn larger_budget_changes_no_ending()
     ensures { LargerBudgetChangesNoEnding }
-{
-}
+{}
 
 /// The events under a budget are the first of those under each larger one.
 pub fn larger_budget_only_adds_events()
     ensures { LargerBudgetOnlyAddsEvents }
-{
-}
+{}
 
 /// The numbers of the live objects differ and are below the next one, at the start and after each call.
 pub fn objects_stay_numbered()
     ensures { ObjectsStayNumbered }
-{
-}
+{}

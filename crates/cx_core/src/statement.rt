@@ -15,12 +15,7 @@ pub enum Statement {
     If(Operand, Box<Statement>, Box<Statement>),
     While(Operand, Box<Statement>),
     /// What comes first, the condition, the step and the body.
-    For(
-        Box<Statement>,
-        Option<Operand>,
-        Box<Statement>,
-        Box<Statement>,
-    ),
+    For(Box<Statement>, Option<Operand>, Box<Statement>, Box<Statement>),
     Break,
     Continue,
     Return,

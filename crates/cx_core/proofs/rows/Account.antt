@@ -1,17 +1,17 @@
 -- A program of three units with a class, mixed semantics, Caller's checks of both lists and a handler that throws.
-use Rattle.std.specs.Prelude.{◌≡◌, refl, ℕ, Bool, List, [], ◌∷◌, ◌++◌, map, Option, Some, None, pos, codes}
+use Rattle.std.specs.Prelude.{refl, ℕ, List, [], ◌∷◌, ◌++◌, map, Some, None, pos, codes}
 use Rattle.cx_core.specs.declared.number.IntegerType.TheVariants as types
 use Rattle.cx_core.specs.declared.number.BinaryOperator.TheVariants.{Add, Subtract, Divide, Remainder, GreaterEqual, Greater, LessEqual, Equal}
 use Rattle.cx_core.specs.declared.number.Query.TheVariants as queries
-use Rattle.cx_core.specs.Words.{AssertionKind, Pre, Post, Assert, Party, Definer, Caller, Semantic, Observe, Enforce, Holds, False, PredicateFalse, Ending, Returned}
-use Rattle.cx_core.specs.Tree.{class, Expr, this, variable, result_name, exception_object, member, indirection, call, putchar, puts, puts_comment, query, Operand, compound_assign, assign, value, construct, no_more, by_reference, by_value, object, Assertion, Check, Stmt, empty, expression, variable_declaration, if_else, return_value, contract_assert, throw, try, none, catch}
+use Rattle.cx_core.specs.Words.{AssertionKind, Pre, Post, Assert, Party, Definer, Caller, Semantic, Observe, Enforce, Holds, False, PredicateFalse, Returned}
+use Rattle.cx_core.specs.Tree.{class, variable, result_name, exception_object, member, call, putchar, puts, puts_comment, query, Operand, compound_assign, assign, value, construct, no_more, by_reference, by_value, object, Assertion, Stmt, empty, expression, variable_declaration, if_else, return_value, contract_assert, throw, try, none, catch}
 use Rattle.cx_core.specs.Program.{Checks, Function, Program, void, scalar_value, scalar_object}
 use Rattle.cx_core.specs.Event.{Event, out, begin, verdict, handler, destroyed}
 use Rattle.cx_core.specs.Event as event
 use Rattle.cx_core.specs.Check.{violation_of}
-use Rattle.cx_core.specs.Meaning.{mean, running}
+use Rattle.cx_core.specs.Meaning.{running}
 use Rattle.cx_core.specs.Runs.{IsRun}
-use Rattle.cx_core.proofs.rows.Writing.{int, lit, as_is, read_int, read_variable, ints, int_arg, own, say, list, assertion_in, check, evaluation_of, no_checks, pre, main_of, function_of, checked_function, handler_of, constructor_of, destructor_of, with_body, int_field, class_of_one, program_of}
+use Rattle.cx_core.proofs.rows.Writing.{int, lit, as_is, read_int, read_variable, ints, int_arg, own, say, list, assertion_in, check, evaluation_of, no_checks, pre, main_of, function_of, checked_function, handler_of, constructor_of, destructor_of, int_field, class_of_one, program_of}
 
 -- ---- the class
 
@@ -87,9 +87,9 @@ account_functions =
     ∷ in_acct (function_of scalar_value (return_value held ∷ []))
     ∷ in_acct (checked_function void (of_deposit Enforce) (expression (assign (own 0) (as_is (ints Add held parameter))) ∷ []))
     ∷ in_acct (checked_function scalar_object (of_withdraw Enforce) (
-        expression (compound_assign Subtract types.Int types.Int (own 0) parameter)
-        ∷ contract_assert (check not_negative Enforce 1 (at_least held (lit 0)))
-        ∷ return_value (lit 1) ∷ []))
+    expression (compound_assign Subtract types.Int types.Int (own 0) parameter)
+    ∷ contract_assert (check not_negative Enforce 1 (at_least held (lit 0)))
+    ∷ return_value (lit 1) ∷ []))
     ∷ []
 
 -- void number(int n) { if (n >= 10) number(n / 10); putchar('0' + n % 10); }
@@ -112,12 +112,12 @@ on_a f n = expression (call f (by_reference (member 0 (variable 0)) (int_arg n n
 abbrev pub main_function : Function
 main_function = main_of (
     try (list (
-        variable_declaration 0 (class 0) (construct 3 (int_arg 100 no_more))
-        ∷ on_a 6 50
-        ∷ expression (call 2 (by_reference (variable 0) no_more))
-        ∷ on_a 7 500
-        ∷ expression (puts (codes "never")) ∷ []))
-      (catch int (object 0 (value (read_int exception_object))) (list (return_value (read_variable 0) ∷ [])) none)
+    variable_declaration 0 (class 0) (construct 3 (int_arg 100 no_more))
+    ∷ on_a 6 50
+    ∷ expression (call 2 (by_reference (variable 0) no_more))
+    ∷ on_a 7 500
+    ∷ expression (puts (codes "never")) ∷ []))
+    (catch int (object 0 (value (read_int exception_object))) (list (return_value (read_variable 0) ∷ [])) none)
     ∷ return_value (lit 0) ∷ [])
 
 -- puts(v.comment()); if (v.kind() == std::contracts::assertion_kind::pre) throw 2;
@@ -129,9 +129,10 @@ log_handler = record (handler_of (
 -- main.cpp observes as Caller of both lists, acct.cpp enforces as Definer
 abbrev pub account_program : Program
 account_program = record (program_of (class_of_one (codes "Account") int None 9 4 ∷ [])
-    (main_function ∷ writes_number ∷ shows ∷ account_functions ++ log_handler ∷ []))
-  { callers = (no_checks ∷ no_checks ∷ no_checks ∷ of_constructor Observe ∷ no_checks ∷ no_checks ∷ of_deposit Observe ∷ of_withdraw Observe ∷ no_checks ∷ []) ∷ [];
-    handler = Some 8 }
+    (main_function ∷ writes_number ∷ shows ∷ account_functions ++ log_handler ∷ [])) {
+      callers = (no_checks ∷ no_checks ∷ no_checks ∷ of_constructor Observe ∷ no_checks ∷ no_checks ∷ of_deposit Observe ∷ of_withdraw Observe ∷ no_checks ∷ []) ∷ [];
+      handler = Some 8;
+    }
 
 -- ---- its run
 
@@ -143,17 +144,17 @@ for_both a = holds_for a Caller Observe ++ holds_for a Definer Enforce
 
 pub account_program_runs :
     IsRun account_program [] (
-      for_both starts
-      ++ (for_both deposits
-      ++ (holds_for deposited Definer Enforce
-      ++ (holds_for deposited Caller Observe
-      ++ (map out (codes "150\n")
-      ++ (holds_for withdraws Caller Observe
-      ++ (begin (evaluation_of covered Caller Observe) ∷ verdict False ∷ handler (violation_of covered PredicateFalse Observe) ∷ []
-      ++ (map out (codes "amount <= balance ( )\n")
-      ++ (event.throw (codes "int") ∷ []
-      ++ (map out (codes "closed\n")
-      ++ (destroyed (codes "Account") 1 0 ∷ event.catch (codes "int") ∷ [])))))))))))
-      (Returned (pos 2)) 99
+    for_both starts
+    ++ (for_both deposits
+    ++ (holds_for deposited Definer Enforce
+    ++ (holds_for deposited Caller Observe
+    ++ (map out (codes "150\n")
+    ++ (holds_for withdraws Caller Observe
+    ++ (begin (evaluation_of covered Caller Observe) ∷ verdict False ∷ handler (violation_of covered PredicateFalse Observe) ∷ []
+    ++ (map out (codes "amount <= balance ( )\n")
+    ++ (event.throw (codes "int") ∷ []
+    ++ (map out (codes "closed\n")
+    ++ (destroyed (codes "Account") 1 0 ∷ event.catch (codes "int") ∷ [])))))))))))
+    (Returned (pos 2)) 99
 unfolding running
 account_program_runs = refl

@@ -1,12 +1,12 @@
 -- A `contract_assert` under each semantic, orders that are told wrongly, and budgets.
 use Rattle.std.specs.Prelude.{◌≡◌, refl, ℕ, List, [], ◌∷◌, pos, codes}
 use Rattle.cx_core.specs.declared.number.BinaryOperator.TheVariants.{Less, Add}
-use Rattle.cx_core.specs.Words.{Assert, Definer, Semantic, Ignore, Observe, Enforce, QuickEnforce, Holds, False, PredicateFalse, Ending, Returned, ContractTerminated, Undefined, Overflow}
-use Rattle.cx_core.specs.Tree.{Assertion, Stmt, contract_assert, return_value, putchar, expression, block, done, while_loop, binary, variable}
+use Rattle.cx_core.specs.Words.{Assert, Definer, Semantic, Ignore, Observe, Enforce, QuickEnforce, Holds, False, PredicateFalse, Returned, ContractTerminated, Undefined, Overflow}
+use Rattle.cx_core.specs.Tree.{Assertion, contract_assert, return_value, block, done, while_loop, variable}
 use Rattle.cx_core.specs.Program.{Program}
-use Rattle.cx_core.specs.Event.{Event, out, begin, verdict, handler, Answer, ended, going, waiting, not_a_run}
+use Rattle.cx_core.specs.Event.{Event, out, begin, verdict, handler, ended, going, waiting, not_a_run}
 use Rattle.cx_core.specs.Check.{violation_of}
-use Rattle.cx_core.specs.Meaning.{Meaning, mean, running}
+use Rattle.cx_core.specs.Meaning.{mean, running}
 use Rattle.cx_core.specs.Runs.{IsRun}
 use Rattle.cx_core.proofs.rows.Writing.{lit, as_is, read_int, ints, int_variable, set_int, say, assertion, check, evaluation_of, main_of, program_of}
 
@@ -58,15 +58,15 @@ ignored_assertion_is_not_evaluated = refl
 
 pub observed_assertion_goes_on :
     IsRun (fails_under Observe 1) []
-      (begin (evaluation_of failing Definer Observe) ∷ verdict False ∷ handler (violation_of failing PredicateFalse Observe) ∷ [])
-      (Returned (pos 3)) 9
+    (begin (evaluation_of failing Definer Observe) ∷ verdict False ∷ handler (violation_of failing PredicateFalse Observe) ∷ [])
+    (Returned (pos 3)) 9
 unfolding running
 observed_assertion_goes_on = refl
 
 pub enforced_assertion_terminates :
     IsRun (fails_under Enforce 1) []
-      (begin (evaluation_of failing Definer Enforce) ∷ verdict False ∷ handler (violation_of failing PredicateFalse Enforce) ∷ [])
-      ContractTerminated 9
+    (begin (evaluation_of failing Definer Enforce) ∷ verdict False ∷ handler (violation_of failing PredicateFalse Enforce) ∷ [])
+    ContractTerminated 9
 unfolding running
 enforced_assertion_terminates = refl
 
@@ -78,8 +78,8 @@ quick_enforced_assertion_calls_no_handler = refl
 -- with one repetition
 pub nothing_is_repeated_after_the_end :
     IsRun (fails_under Enforce 2) []
-      (begin (evaluation_of failing Definer Enforce) ∷ verdict False ∷ handler (violation_of failing PredicateFalse Enforce) ∷ [])
-      ContractTerminated 9
+    (begin (evaluation_of failing Definer Enforce) ∷ verdict False ∷ handler (violation_of failing PredicateFalse Enforce) ∷ [])
+    ContractTerminated 9
 unfolding running
 nothing_is_repeated_after_the_end = refl
 

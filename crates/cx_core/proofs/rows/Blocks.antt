@@ -1,15 +1,15 @@
 -- Blocks of checks: repetitions, both parties, orders that are permitted and one that isn't, and result names.
-use Rattle.std.specs.Prelude.{◌≡◌, refl, ℕ, List, [], ◌∷◌, ◌++◌, Option, Some, None, pos, codes}
+use Rattle.std.specs.Prelude.{◌≡◌, refl, ℕ, List, [], ◌∷◌, ◌++◌, pos, codes}
 use Rattle.cx_core.specs.declared.number.IntegerType.TheVariants as types
 use Rattle.cx_core.specs.declared.number.BinaryOperator.TheVariants.{Add, Greater}
-use Rattle.cx_core.specs.Words.{Pre, Post, Party, Definer, Caller, Semantic, Ignore, Observe, Enforce, Holds, False, PredicateFalse, Ending, Returned, ContractTerminated}
-use Rattle.cx_core.specs.Tree.{pointer, Expr, variable, result_name, prefix_step, indirection, call, Operand, value, no_more, by_reference, by_value, Assertion, Stmt, return_value, return_reference}
-use Rattle.cx_core.specs.Program.{Program, Function, scalar_value, scalar_object, reference}
-use Rattle.cx_core.specs.Event.{Event, begin, verdict, handler, Evaluation, Answer, waiting, not_a_run}
+use Rattle.cx_core.specs.Words.{Pre, Post, Party, Definer, Caller, Semantic, Observe, Enforce, Holds, False, PredicateFalse, Returned, ContractTerminated}
+use Rattle.cx_core.specs.Tree.{pointer, variable, result_name, prefix_step, indirection, call, Operand, value, no_more, by_reference, by_value, Assertion, return_value, return_reference}
+use Rattle.cx_core.specs.Program.{Program, scalar_value, scalar_object, reference}
+use Rattle.cx_core.specs.Event.{Event, begin, verdict, handler, Evaluation, waiting, not_a_run}
 use Rattle.cx_core.specs.Check.{violation_of}
 use Rattle.cx_core.specs.Meaning.{mean, running}
 use Rattle.cx_core.specs.Runs.{IsRun}
-use Rattle.cx_core.proofs.rows.Writing.{int, lit, as_is, read_int, read_pointer, read_variable, ints, int_variable, int_arg, assertion, assertion_in, check, evaluation_of, no_checks, pre, post, main_of, function_of, checked_function, program_of, calling}
+use Rattle.cx_core.proofs.rows.Writing.{lit, as_is, read_int, read_pointer, read_variable, ints, int_variable, int_arg, assertion, assertion_in, check, evaluation_of, pre, post, main_of, checked_function, program_of, calling}
 
 abbrev pub held : Evaluation → List Event
 held e = begin e ∷ verdict Holds ∷ []
@@ -22,8 +22,8 @@ abbrev pub steps_three_times : Program
 steps_three_times = program_of [] (
     main_of (int_variable 0 (lit 0) ∷ return_value (as_is (call 1 (by_value pointer (value (as_is (variable 0))) no_more))) ∷ [])
     ∷ checked_function scalar_value
-        (pre (check steps Enforce 3 (as_is (ints Greater (read_int (prefix_step Add types.Int (indirection (read_pointer (variable 0))))) (lit 0))) ∷ []))
-        (return_value (read_int (indirection (read_pointer (variable 0)))) ∷ [])
+    (pre (check steps Enforce 3 (as_is (ints Greater (read_int (prefix_step Add types.Int (indirection (read_pointer (variable 0))))) (lit 0))) ∷ []))
+    (return_value (read_int (indirection (read_pointer (variable 0)))) ∷ [])
     ∷ [])
 
 abbrev pub step_held : List Event
@@ -63,7 +63,7 @@ second_by party = evaluation_of above_one party Enforce
 
 pub caller_checks_before_the_definer :
     IsRun (calls_of_two 2 Enforce 0 1 1) []
-      (held (second_by Caller) ++ (held (first_by Definer) ++ held (second_by Definer))) (Returned (pos 5)) 99
+    (held (second_by Caller) ++ (held (first_by Definer) ++ held (second_by Definer))) (Returned (pos 5)) 99
 unfolding running
 caller_checks_before_the_definer = refl
 
@@ -81,19 +81,19 @@ caller_is_not_skipped = refl
 -- with one repetition: the plain order, and two others
 pub whole_list_then_whole_list_again :
     IsRun (calls_of_two 2 Enforce 0 0 2) []
-      (held (first_by Definer) ++ (held (second_by Definer) ++ (held (first_by Definer) ++ held (second_by Definer)))) (Returned (pos 5)) 99
+    (held (first_by Definer) ++ (held (second_by Definer) ++ (held (first_by Definer) ++ held (second_by Definer)))) (Returned (pos 5)) 99
 unfolding running
 whole_list_then_whole_list_again = refl
 
 pub each_twice_in_turn :
     IsRun (calls_of_two 2 Enforce 0 0 2) []
-      (held (first_by Definer) ++ (held (first_by Definer) ++ (held (second_by Definer) ++ held (second_by Definer)))) (Returned (pos 5)) 99
+    (held (first_by Definer) ++ (held (first_by Definer) ++ (held (second_by Definer) ++ held (second_by Definer)))) (Returned (pos 5)) 99
 unfolding running
 each_twice_in_turn = refl
 
 pub repetitions_in_reverse :
     IsRun (calls_of_two 2 Enforce 0 0 2) []
-      (held (first_by Definer) ++ (held (second_by Definer) ++ (held (second_by Definer) ++ held (first_by Definer)))) (Returned (pos 5)) 99
+    (held (first_by Definer) ++ (held (second_by Definer) ++ (held (second_by Definer) ++ held (first_by Definer)))) (Returned (pos 5)) 99
 unfolding running
 repetitions_in_reverse = refl
 
@@ -106,9 +106,9 @@ one_more_than_owed = refl
 -- f(0): the Caller observes, the Definer enforces
 pub both_parties_find_it_false :
     IsRun (calls_of_two 0 Observe 1 0 1) []
-      (begin (evaluation_of positive Caller Observe) ∷ verdict False ∷ handler (violation_of positive PredicateFalse Observe)
-      ∷ begin (first_by Definer) ∷ verdict False ∷ handler (violation_of positive PredicateFalse Enforce)
-      ∷ []) ContractTerminated 99
+    (begin (evaluation_of positive Caller Observe) ∷ verdict False ∷ handler (violation_of positive PredicateFalse Observe)
+    ∷ begin (first_by Definer) ∷ verdict False ∷ handler (violation_of positive PredicateFalse Enforce)
+    ∷ []) ContractTerminated 99
 unfolding running
 both_parties_find_it_false = refl
 
@@ -128,7 +128,7 @@ postcondition_names_the_result = refl
 
 pub postcondition_is_false :
     IsRun (result_above 4) []
-      (begin (evaluation_of more Definer Enforce) ∷ verdict False ∷ handler (violation_of more PredicateFalse Enforce) ∷ []) ContractTerminated 99
+    (begin (evaluation_of more Definer Enforce) ∷ verdict False ∷ handler (violation_of more PredicateFalse Enforce) ∷ []) ContractTerminated 99
 unfolding running
 postcondition_is_false = refl
 
@@ -138,8 +138,8 @@ referred = assertion Post (codes "f#post1") 1 16 (codes "r > 0")
 
 pub result_name_is_what_a_reference_result_refers_to :
     IsRun (program_of [] (
-      main_of (int_variable 0 (lit 1) ∷ return_value (read_int (call 1 (by_reference (variable 0) no_more))) ∷ [])
-      ∷ checked_function reference (post (check referred Enforce 1 (as_is (ints Greater (read_int result_name) (lit 0))) ∷ [])) (return_reference (variable 0) ∷ [])
-      ∷ [])) [] (held (evaluation_of referred Definer Enforce)) (Returned (pos 1)) 99
+    main_of (int_variable 0 (lit 1) ∷ return_value (read_int (call 1 (by_reference (variable 0) no_more))) ∷ [])
+    ∷ checked_function reference (post (check referred Enforce 1 (as_is (ints Greater (read_int result_name) (lit 0))) ∷ [])) (return_reference (variable 0) ∷ [])
+    ∷ [])) [] (held (evaluation_of referred Definer Enforce)) (Returned (pos 1)) 99
 unfolding running
 result_name_is_what_a_reference_result_refers_to = refl

@@ -1,16 +1,16 @@
 -- Expressions, loops, references and pointers, and the points at which a run is undefined.
-use Rattle.std.specs.Prelude.{◌≡◌, refl, ℕ, List, [], ◌∷◌, Option, Some, None, pos, negsuc}
+use Rattle.std.specs.Prelude.{refl, List, [], ◌∷◌, Some, None, pos}
 use Rattle.cx_types.specs.declared.value_type.Scalar.TheVariants as scalars
 use Rattle.cx_core.specs.declared.number.IntegerType.TheVariants as types
 use Rattle.cx_core.specs.declared.number.BinaryOperator.TheVariants.{Add, Subtract, Divide, ShiftLeft, Less, Greater, Equal, NotEqual}
 use Rattle.cx_core.specs.declared.number.UnaryOperator.TheVariants.{Not}
-use Rattle.cx_core.specs.Words.{Ending, Returned, Undefined, Shift, Null, Dead, Unset, Flow, Mixed}
-use Rattle.cx_core.specs.Tree.{ObjectType, scalar, pointer, number, nullptr, Expr, literal, variable, global, unary, binary, logical_and, logical_or, conditional, assign, compound_assign, prefix_step, postfix_step, indirection, call, getchar, Operand, operand, value, no_more, by_reference, by_value, Condition, always, while, Stmt, empty, expression, variable_declaration, reference_declaration, block, done, if_else, while_loop, for_loop, break, continue, return_value, return_reference}
+use Rattle.cx_core.specs.Words.{Returned, Undefined, Shift, Null, Dead, Unset, Flow}
+use Rattle.cx_core.specs.Tree.{scalar, pointer, number, nullptr, Expr, literal, variable, global, unary, binary, logical_and, logical_or, conditional, assign, compound_assign, prefix_step, postfix_step, indirection, call, getchar, Operand, operand, value, no_more, by_reference, always, while, Stmt, empty, expression, variable_declaration, reference_declaration, block, if_else, while_loop, for_loop, break, continue, return_value, return_reference}
 use Rattle.cx_core.specs.Program.{Program, scalar_value, reference}
-use Rattle.cx_core.specs.Event.{Event, input, input_end}
-use Rattle.cx_core.specs.Meaning.{mean, running}
+use Rattle.cx_core.specs.Event.{input, input_end}
+use Rattle.cx_core.specs.Meaning.{running}
 use Rattle.cx_core.specs.Runs.{IsRun}
-use Rattle.cx_core.proofs.rows.Writing.{int, lit, minus_one, as_is, read_int, read_pointer, read_variable, ints, int_variable, set_int, int_arg, list, main_of, function_of, program_of}
+use Rattle.cx_core.proofs.rows.Writing.{lit, minus_one, as_is, read_int, read_pointer, read_variable, ints, int_variable, set_int, list, main_of, function_of, program_of}
 
 abbrev pub runs_main : List Stmt → Program
 runs_main body = program_of [] (main_of body ∷ [])
@@ -21,10 +21,10 @@ unsigned_of e = operand (Some (scalar scalars.Unsigned)) None e
 
 pub unsigned_arithmetic_wraps :
     IsRun (runs_main (
-      variable_declaration 0 (scalar scalars.Unsigned) (value (operand None (Some types.Unsigned) (literal (number (pos 0)))))
-      ∷ expression (assign (variable 0) (as_is (binary Subtract types.Unsigned (unsigned_of (variable 0)) (operand None (Some types.Unsigned) (literal (number (pos 1)))))))
-      ∷ return_value (operand None (Some types.Int) (binary Greater types.LongLong (operand (Some (scalar scalars.Unsigned)) (Some types.LongLong) (variable 0)) (lit 4000000000)))
-      ∷ [])) [] [] (Returned (pos 1)) 99
+    variable_declaration 0 (scalar scalars.Unsigned) (value (operand None (Some types.Unsigned) (literal (number (pos 0)))))
+    ∷ expression (assign (variable 0) (as_is (binary Subtract types.Unsigned (unsigned_of (variable 0)) (operand None (Some types.Unsigned) (literal (number (pos 1)))))))
+    ∷ return_value (operand None (Some types.Int) (binary Greater types.LongLong (operand (Some (scalar scalars.Unsigned)) (Some types.LongLong) (variable 0)) (lit 4000000000)))
+    ∷ [])) [] [] (Returned (pos 1)) 99
 unfolding running
 unsigned_arithmetic_wraps = refl
 
@@ -39,37 +39,37 @@ divided_by_z = as_is (ints Divide (lit 1) (read_variable 0))
 
 pub what_is_not_needed_is_not_evaluated :
     IsRun (runs_main (
-      int_variable 0 (lit 0)
-      ∷ return_value (as_is (conditional
-          (as_is (logical_or
-            (as_is (logical_and (as_is (ints NotEqual (read_variable 0) (lit 0))) (as_is (ints Greater divided_by_z (lit 0)))))
-            (as_is (unary Not types.Int (read_variable 0)))))
-          (lit 4) divided_by_z))
-      ∷ [])) [] [] (Returned (pos 4)) 99
+    int_variable 0 (lit 0)
+    ∷ return_value (as_is (conditional
+    (as_is (logical_or
+    (as_is (logical_and (as_is (ints NotEqual (read_variable 0) (lit 0))) (as_is (ints Greater divided_by_z (lit 0)))))
+    (as_is (unary Not types.Int (read_variable 0)))))
+    (lit 4) divided_by_z))
+    ∷ [])) [] [] (Returned (pos 4)) 99
 unfolding running
 what_is_not_needed_is_not_evaluated = refl
 
 -- int main(){ int n = 0; for (int i = 0; i < 9; ++i) { if (i == 2) continue; if (i == 5) break; n += i; } return n; }
 pub break_and_continue :
     IsRun (runs_main (
-      int_variable 0 (lit 0)
-      ∷ for_loop (int_variable 1 (lit 0)) (while (as_is (ints Less (read_variable 1) (lit 9)))) (expression (prefix_step Add types.Int (variable 1)))
-          (block (list (
-            if_else (as_is (ints Equal (read_variable 1) (lit 2))) continue empty
-            ∷ if_else (as_is (ints Equal (read_variable 1) (lit 5))) break empty
-            ∷ expression (compound_assign Add types.Int types.Int (variable 0) (read_variable 1))
-            ∷ [])))
-      ∷ return_value (read_variable 0)
-      ∷ [])) [] [] (Returned (pos 8)) 99
+    int_variable 0 (lit 0)
+    ∷ for_loop (int_variable 1 (lit 0)) (while (as_is (ints Less (read_variable 1) (lit 9)))) (expression (prefix_step Add types.Int (variable 1)))
+    (block (list (
+    if_else (as_is (ints Equal (read_variable 1) (lit 2))) continue empty
+    ∷ if_else (as_is (ints Equal (read_variable 1) (lit 5))) break empty
+    ∷ expression (compound_assign Add types.Int types.Int (variable 0) (read_variable 1))
+    ∷ [])))
+    ∷ return_value (read_variable 0)
+    ∷ [])) [] [] (Returned (pos 8)) 99
 unfolding running
 break_and_continue = refl
 
 -- int main(){ int k = 1; for (;;) { if (k++ > 3) return k; } }
 pub postfix_gives_the_old_value :
     IsRun (runs_main (
-      int_variable 0 (lit 1)
-      ∷ for_loop empty always empty (if_else (as_is (ints Greater (as_is (postfix_step Add types.Int (variable 0))) (lit 3))) (return_value (read_variable 0)) empty)
-      ∷ [])) [] [] (Returned (pos 5)) 99
+    int_variable 0 (lit 1)
+    ∷ for_loop empty always empty (if_else (as_is (ints Greater (as_is (postfix_step Add types.Int (variable 0))) (lit 3))) (return_value (read_variable 0)) empty)
+    ∷ [])) [] [] (Returned (pos 5)) 99
 unfolding running
 postfix_gives_the_old_value = refl
 
@@ -113,17 +113,17 @@ main_without_return_gives_zero = refl
 -- int* keep(int& x) { return &x; } int* lost() { int k = 1; return keep(k); } int main(){ return *lost(); }
 pub pointer_to_an_object_that_has_ended :
     IsRun (program_of [] (
-      main_of (return_value (read_int (indirection (as_is (call 2 no_more)))) ∷ [])
-      ∷ function_of scalar_value (return_value (as_is (variable 0)) ∷ [])
-      ∷ function_of scalar_value (int_variable 0 (lit 1) ∷ return_value (as_is (call 1 (by_reference (variable 0) no_more))) ∷ [])
-      ∷ [])) [] [] (Undefined Dead) 99
+    main_of (return_value (read_int (indirection (as_is (call 2 no_more)))) ∷ [])
+    ∷ function_of scalar_value (return_value (as_is (variable 0)) ∷ [])
+    ∷ function_of scalar_value (int_variable 0 (lit 1) ∷ return_value (as_is (call 1 (by_reference (variable 0) no_more))) ∷ [])
+    ∷ [])) [] [] (Undefined Dead) 99
 unfolding running
 pointer_to_an_object_that_has_ended = refl
 
 -- int main(){ int* p = nullptr; return *p; }
 pub null_pointer_is_no_object :
     IsRun (runs_main (variable_declaration 0 pointer (value (as_is (literal nullptr))) ∷ return_value (read_int (indirection (read_pointer (variable 0)))) ∷ []))
-      [] [] (Undefined Null) 99
+    [] [] (Undefined Null) 99
 unfolding running
 null_pointer_is_no_object = refl
 
@@ -141,8 +141,8 @@ reference_in_its_own_initialiser_denotes_nothing = refl
 -- int& f(int& x) { return x; } int main(){ int k = 1; f(k) = 6; return k; }
 pub reference_result_is_an_lvalue :
     IsRun (program_of [] (
-      main_of (int_variable 0 (lit 1) ∷ expression (assign (call 1 (by_reference (variable 0) no_more)) (lit 6)) ∷ return_value (read_variable 0) ∷ [])
-      ∷ function_of reference (return_reference (variable 0) ∷ [])
-      ∷ [])) [] [] (Returned (pos 6)) 99
+    main_of (int_variable 0 (lit 1) ∷ expression (assign (call 1 (by_reference (variable 0) no_more)) (lit 6)) ∷ return_value (read_variable 0) ∷ [])
+    ∷ function_of reference (return_reference (variable 0) ∷ [])
+    ∷ [])) [] [] (Returned (pos 6)) 99
 unfolding running
 reference_result_is_an_lvalue = refl

@@ -1,7 +1,7 @@
 -- What operators compute at the ends of their types.
-use Rattle.std.specs.Prelude.{◌≡◌, refl, ℕ, pos, negsuc, Ok, Err}
+use Rattle.std.specs.Prelude.{◌≡◌, refl, pos, negsuc, Ok, Err}
 use Rattle.cx_core.specs.declared.number.IntegerType.TheVariants.{Bool, Char, Int, Unsigned, LongLong, UnsignedLongLong}
-use Rattle.cx_core.specs.declared.number.BinaryOperator.TheVariants.{Add, Subtract, Multiply, Divide, Remainder, ShiftLeft, ShiftRight, BitAnd, BitOr, BitXor, Less}
+use Rattle.cx_core.specs.declared.number.BinaryOperator.TheVariants.{Add, Subtract, Multiply, Divide, Remainder, ShiftLeft, ShiftRight, BitAnd, BitXor}
 use Rattle.cx_core.specs.declared.number.UnaryOperator.TheVariants.{Minus, Complement}
 use Rattle.cx_core.specs.Words.{Overflow, Division, Shift}
 use Rattle.cx_core.specs.Number.{converted_number, binary_number, unary_number, least, greatest}

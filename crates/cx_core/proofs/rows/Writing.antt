@@ -1,12 +1,11 @@
 -- Short words for typed programs that are written by hand.
 use Rattle.std.specs.Prelude.{ℕ, Bool, true, false, List, [], ◌∷◌, Option, Some, None, pos, negsuc, codes}
 use Rattle.cx_types.specs.declared.value_type.Scalar.TheVariants as scalars
-use Rattle.cx_core.specs.declared.number.IntegerType.{IntegerType}
 use Rattle.cx_core.specs.declared.number.IntegerType.TheVariants as types
 use Rattle.cx_core.specs.declared.number.BinaryOperator.{BinaryOperator}
-use Rattle.cx_core.specs.Words.{AssertionKind, Pre, Post, Assert, Party, Definer, Caller, Semantic, Ending}
-use Rattle.cx_core.specs.Tree.{ObjectType, scalar, pointer, class, Constant, number, Expr, literal, variable, this, binary, assign, indirection, member, putchar, Operand, operand, Init, value, Args, no_more, by_reference, by_value, Assertion, Check, Stmt, expression, variable_declaration, return_value, Stmts, done, next}
-use Rattle.cx_core.specs.Program.{Checks, FieldInit, Body, function, violation_handler, constructor, destructor, implicit_constructor, implicit_copy_constructor, implicit_destructor, ResultKind, void, scalar_value, exit_status, Function, LeafKind, number_leaf, empty_leaf, Field, Class, Program}
+use Rattle.cx_core.specs.Words.{AssertionKind, Party, Semantic}
+use Rattle.cx_core.specs.Tree.{ObjectType, scalar, pointer, number, Expr, literal, variable, this, binary, assign, indirection, member, putchar, Operand, operand, value, Args, by_value, Assertion, Check, Stmt, expression, variable_declaration, Stmts, done, next}
+use Rattle.cx_core.specs.Program.{Checks, FieldInit, Body, function, violation_handler, constructor, destructor, implicit_constructor, implicit_copy_constructor, implicit_destructor, ResultKind, void, exit_status, Function, number_leaf, empty_leaf, Class, Program}
 use Rattle.cx_core.specs.Event.{Evaluation}
 
 abbrev pub int : ObjectType
