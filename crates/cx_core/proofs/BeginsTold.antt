@@ -7,7 +7,7 @@ use Rattle.cx_core.specs.Store.{Value, number, address, null, violation}
 use Rattle.cx_core.specs.Outcome.{State, Outcome, on, thrown, over}
 use Rattle.cx_core.specs.Meaning.{mean, mean_within, meaning_of, calls_within, main_call, start, depth_limit}
 use Rattle.cx_core.specs.Laws.{BeginsAreTheFirstTold}
-use Rattle.cx_core.proofs.Everywhere.{IsSilent}
+use Rattle.cx_core.proofs.Everywhere.{IsPlain}
 use Rattle.cx_core.proofs.EverywhereMeaning.{calls_within_of}
 use Rattle.cx_core.proofs.Invariant.{IsInvariant, Leaves, Keeps, invariant_is_closed}
 
@@ -30,19 +30,19 @@ begun trace = begins_of (reverse trace)
 begun-cons : (event : Event) (trace : List Event) → begun (event ∷ trace) ≡ begun trace ++ begins_of (event ∷ [])
 begun-cons event trace = ap begins_of (reverse_onto trace event []) ∙ begins_of-append (reverse trace) (event ∷ [])
 
-silent_begins : (event : Event) → IsSilent event → begins_of (event ∷ []) ≡ []
-silent_begins (begin e) h = absurd h
-silent_begins (out b) h = refl
-silent_begins (input b) h = refl
-silent_begins input_end h = refl
-silent_begins (verdict v) h = refl
-silent_begins (handler v) h = refl
-silent_begins (throw t) h = refl
-silent_begins (catch t) h = refl
-silent_begins (destroyed k n l) h = refl
+plain_begins : (event : Event) → IsPlain event → begins_of (event ∷ []) ≡ []
+plain_begins (begin e) h = absurd h
+plain_begins (out b) h = refl
+plain_begins (input b) h = absurd h
+plain_begins input_end h = refl
+plain_begins (verdict v) h = refl
+plain_begins (handler v) h = refl
+plain_begins (throw t) h = refl
+plain_begins (catch t) h = refl
+plain_begins (destroyed k n l) h = refl
 
-begun_silently : (event : Event) (trace : List Event) → IsSilent event → begun (event ∷ trace) ≡ begun trace
-begun_silently event trace h = begun-cons event trace ∙ ap (λ l. begun trace ++ l) (silent_begins event h) ∙ append-nil (begun trace)
+begun_plainly : (event : Event) (trace : List Event) → IsPlain event → begun (event ∷ trace) ≡ begun trace
+begun_plainly event trace h = begun-cons event trace ∙ ap (λ l. begun trace ++ l) (plain_begins event h) ∙ append-nil (begun trace)
 
 -- those that were told are those that have begun and those that are still told
 abbrev AreTold : List Evaluation → State → Type 0
@@ -59,9 +59,9 @@ are_told all = record {
   with_living = λ s living h. h;
   with_temporaries = λ s temporaries h. h;
   with_held = λ s held h. h;
-  with_event = λ s event silent h. ap (λ l. l ++ s.begins) (begun_silently event s.trace silent) ∙ h;
+  with_event = λ s event plain h. ap (λ l. l ++ s.begins) (begun_plainly event s.trace plain) ∙ h;
   with_begin = λ s e begins h. ap (λ l. l ++ begins) (begun-cons (begin e) s.trace) ∙ (append_assoc (begun s.trace) (e ∷ []) begins ∙ h);
-  with_byte = λ s b bytes h. ap (λ l. l ++ s.begins) (begun_silently (input b) s.trace (tt {0})) ∙ h;
+  with_byte = λ s b bytes h. ap (λ l. l ++ s.begins) (begun-cons (input b) s.trace ∙ append-nil (begun s.trace)) ∙ h;
   with_object = λ s leaves h. h;
   with_end = λ s n h. h;
   with_leaf = λ s a leaf store e h. h;

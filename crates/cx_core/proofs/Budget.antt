@@ -5,8 +5,8 @@ use Rattle.cx_core.specs.Program.{Program}
 use Rattle.cx_core.specs.Store.{Value, number, address, null, violation}
 use Rattle.cx_core.specs.Event.{Evaluation, Event, ended, going, waiting, not_a_run}
 use Rattle.cx_core.specs.Outcome.{Outcome, on, thrown, over}
-use Rattle.cx_core.specs.Meaning.{Meaning, mean, mean_within, meaning_of, calls_within, main_call, start, depth_limit}
-use Rattle.cx_core.specs.Laws.{LargerBudgetChangesNoEnding, LargerBudgetOnlyAddsEvents}
+use Rattle.cx_core.specs.Meaning.{Meaning, mean, mean_within, implicit_within, running, meaning_of, calls_within, main_call, start, depth_limit}
+use Rattle.cx_core.specs.Laws.{LargerBudgetChangesNoEnding, LargerBudgetOnlyAddsEvents, NoBudgetSaysNothing}
 use Rattle.cx_core.proofs.EverywhereMeaning.{calls_within_of}
 use Rattle.cx_core.proofs.LargerBudget.{Extends, Grows, Grown, Lasts, everything_lasts}
 
@@ -68,3 +68,7 @@ pub larger_budget_only_adds_events : LargerBudgetOnlyAddsEvents
 unfolding mean mean_within run_of
 larger_budget_only_adds_events program begins bytes budget d =
     events_continue d (run_of program begins bytes budget) (run_of program begins bytes (budget + d)) (run_extends program begins bytes budget d)
+
+pub no_budget_says_nothing : NoBudgetSaysNothing
+unfolding running
+no_budget_says_nothing program begins bytes = refl

@@ -7,7 +7,7 @@ use Rattle.cx_core.specs.declared.number.Query.{Query}
 use Rattle.cx_core.specs.Words.{Kind, Semantic, Ignore, Observe, Enforce, QuickEnforce, Violation}
 use Rattle.cx_core.specs.Tree.{ObjectType, scalar, pointer, class, Assertion, Check}
 use Rattle.cx_core.specs.Store.{Address, Value, number, address, null, violation, Leaf, Store, place_in}
-use Rattle.cx_core.specs.Event.{Event, begin, throw, catch, Answer, Evaluation}
+use Rattle.cx_core.specs.Event.{Event, begin, input, throw, catch, Answer, Evaluation}
 use Rattle.cx_core.specs.Outcome.{Living, whole, field, Exception, Frame, Does, Nothing, nothing, either, ◌>>=◌, ◌>>◌, gives, throws, ends, defined, some, current_frame, current_store, current_living, current_temporaries, current_held, set_frame, set_living, set_temporaries, set_held, append, spend, spend_all, make, remove, keep, keep_temporary, place_of, read, write}
 use Rattle.cx_core.specs.Leaving.{Call, Calls, edge_if, within, in_unit, leaves_of_type, call_on, destroy, destroy_each, destroy_fields, destroy_object, end, end_each, scope, full_expression, constructing, object, end_unless_among, holding}
 use Rattle.cx_core.specs.Block.{Owed, Continued, continued, once_less, behind, has_stood, if_permitted, evaluations, next_told, begin_told}
@@ -18,10 +18,11 @@ use Rattle.cx_core.specs.Library.{write_bytes, putchar_call, next_byte, getchar_
 use Rattle.cx_core.specs.Program.{Program, LeafKind, number_leaf, pointer_leaf, empty_leaf, ResultKind, void, scalar_value, scalar_object, class_object, reference, exit_status}
 use Rattle.cx_core.specs.Statements.{Completion, on_to_next, break, continue, return, sequence, loop, zero_leaf, zero_leaves, zero_object, call_of, call_into, call_with_object, call_giving, throw_of, rethrow_of, rethrown, handled, variable_of, reference_of, this_place, keep_field, field_of, type_name}
 
--- an event other than the beginning of an evaluation
-abbrev pub IsSilent : Event → Type 0
-IsSilent (begin e) = ⊥
-IsSilent event = Unit {0}
+-- an event that takes nothing of what is told or of the input
+abbrev pub IsPlain : Event → Type 0
+IsPlain (begin e) = ⊥
+IsPlain (input b) = ⊥
+IsPlain event = Unit {0}
 
 pub record IsClosed (K : (A : Type 0) → Does A → Type 0) : Type 1 where
   pub of_gives : {A : Type 0} (a : A) → K A (gives a)
@@ -31,7 +32,7 @@ pub record IsClosed (K : (A : Type 0) → Does A → Type 0) : Type 1 where
       → K A m → ((a : A) → K B (next a)) → ((e : Exception) → K B (handler e)) → K B (either m next handler)
   pub of_loop : (condition : Does Bool) (step body : Does Completion) → K Bool condition → K Completion step → K Completion body → K Completion (loop condition step body)
   pub of_spend : K Nothing spend
-  pub of_append : (event : Event) → IsSilent event → K Nothing (append event)
+  pub of_append : (event : Event) → IsPlain event → K Nothing (append event)
   pub of_next_told : K Evaluation next_told
   pub of_begin_told : K Nothing begin_told
   pub of_next_byte : K Value next_byte

@@ -275,7 +275,7 @@ module _ (K : (A : Type 0) → Does A → Type 0) (c : IsClosed K) where
     acting_of (implicit_destructor t) f made = destructor_call_of f t done
 
     pub active_of : (made : Call) → K Value (meaning.active program calls made)
-    active_of made = every.then_of K c _ _ (every.some_of K c _) (λ f. every.seq_of K c _ _ c.of_spend (every.within_of K c _ _ (acting_of f.body f made)))
+    active_of made = every.seq_of K c _ _ c.of_spend (every.then_of K c _ _ (every.some_of K c _) (λ f. every.within_of K c _ _ (acting_of f.body f made)))
 
   pub implicit_within_of : (program : Program) (n : ℕ) (counted : Calls) → ((made : Call) → K Value (counted made)) → (made : Call) → K Value (implicit_within program n counted made)
   unfolding implicit_within

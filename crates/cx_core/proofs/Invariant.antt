@@ -7,7 +7,7 @@ use Rattle.cx_core.specs.Outcome.{Living, Exception, Frame, State, Outcome, on, 
 use Rattle.cx_core.specs.Block.{next_told, next_of, begin_told, begin_of}
 use Rattle.cx_core.specs.Library.{next_byte, read_byte}
 use Rattle.cx_core.specs.Statements.{Completion, on_to_next, break, continue, return, turns, loop, after_turn}
-use Rattle.cx_core.proofs.Everywhere.{IsClosed, IsSilent}
+use Rattle.cx_core.proofs.Everywhere.{IsClosed, IsPlain}
 
 -- a property of states that each primitive keeps, and what it says of a trace at the end
 pub record IsInvariant (I : State → Type 0) (J : List Event → Type 0) : Type 0 where
@@ -17,9 +17,9 @@ pub record IsInvariant (I : State → Type 0) (J : List Event → Type 0) : Type
   pub with_living : (s : State) (living : List Living) → I s → I (record s { living = living })
   pub with_temporaries : (s : State) (temporaries : List Living) → I s → I (record s { temporaries = temporaries })
   pub with_held : (s : State) (held : List Exception) → I s → I (record s { held = held })
-  pub with_event : (s : State) (event : Event) → IsSilent event → I s → I (record s { trace = event ∷ s.trace })
+  pub with_event : (s : State) (event : Event) → IsPlain event → I s → I (record s { trace = event ∷ s.trace })
   pub with_begin : (s : State) (e : Evaluation) (begins : List Evaluation) → I (record s { begins = e ∷ begins }) → I (record s { begins = begins; trace = begin e ∷ s.trace })
-  pub with_byte : (s : State) (b : ℕ) (bytes : List ℕ) → I s → I (record s { input = bytes; trace = input b ∷ s.trace })
+  pub with_byte : (s : State) (b : ℕ) (bytes : List ℕ) → I (record s { input = b ∷ bytes }) → I (record s { input = bytes; trace = input b ∷ s.trace })
   pub with_object : (s : State) (leaves : List Leaf) → I s → I (record s { next = suc s.next; store = record { number = s.next; leaves = leaves } ∷ s.store })
   pub with_end : (s : State) (n : ℕ) → I s → I (record s { store = without s.store n })
   pub with_leaf : (s : State) (a : Address) (leaf : Leaf) (store : Store) → (written s.store a leaf ≡ Ok store) → I s → I (record s { store = store })
@@ -66,9 +66,9 @@ module _ (I : State → Type 0) (J : List Event → Type 0) (v : IsInvariant I J
   unfolding spend
   of_spend s i = spend_keeps s.budget s refl i
 
-  of_append : (event : Event) → IsSilent event → Keeps I J Nothing (append event)
+  of_append : (event : Event) → IsPlain event → Keeps I J Nothing (append event)
   unfolding append
-  of_append event silent s i = v.with_event s event silent i
+  of_append event plain s i = v.with_event s event plain i
 
   next_keeps : (begins : List Evaluation) → Keeps I J Evaluation (next_of begins)
   next_keeps [] s i = v.at_the_end s i
@@ -86,13 +86,13 @@ module _ (I : State → Type 0) (J : List Event → Type 0) (v : IsInvariant I J
   unfolding begin_told
   of_begin_told s i = begin_keeps s.begins s i (v.at_the_end s i)
 
-  byte_keeps : (bytes : List ℕ) → Keeps I J Value (read_byte bytes)
-  byte_keeps [] s i = v.with_event s input_end (tt {0}) i
-  byte_keeps (b ∷ bytes) s i = v.with_byte s b bytes i
+  byte_keeps : (bytes : List ℕ) (s : State) → I (record s { input = bytes }) → I s → Leaves I J (read_byte bytes s)
+  byte_keeps [] s i j = v.with_event s input_end (tt {0}) j
+  byte_keeps (b ∷ bytes) s i j = v.with_byte s b bytes i
 
   of_next_byte : Keeps I J Value next_byte
   unfolding next_byte
-  of_next_byte s i = byte_keeps s.input s i
+  of_next_byte s i = byte_keeps s.input s i i
 
   write_keeps : (a : Address) (leaf : Leaf) (s : State) (r : Result Store Kind) → (written s.store a leaf ≡ r) → I s → Leaves I J (with_store r s)
   write_keeps a leaf s (Ok store) e i = v.with_leaf s a leaf store e i

@@ -30,7 +30,7 @@ events_are_added from = record {
   with_living = λ s living h. h;
   with_temporaries = λ s temporaries h. h;
   with_held = λ s held h. h;
-  with_event = λ s event silent h. grown_by from s.trace event h;
+  with_event = λ s event plain h. grown_by from s.trace event h;
   with_begin = λ s e begins h. grown_by from s.trace _ h;
   with_byte = λ s b bytes h. grown_by from s.trace _ h;
   with_object = λ s leaves h. h;
@@ -52,7 +52,7 @@ budget_falls n = record {
   with_living = λ s living h. h;
   with_temporaries = λ s temporaries h. h;
   with_held = λ s held h. h;
-  with_event = λ s event silent h. h;
+  with_event = λ s event plain h. h;
   with_begin = λ s e begins h. h;
   with_byte = λ s b bytes h. h;
   with_object = λ s leaves h. h;
@@ -344,7 +344,7 @@ everything_lasts = record {
       (λ n. (falls_closed n).of_loop condition step body (hc.1.0 n) (hs.1.0 n) (hb.1.0 n))
       (loop_extends condition step body hc hs hb);
   of_spend = lasting spend (λ from. (grows_closed from).of_spend) (λ n. (falls_closed n).of_spend) spend_extends;
-  of_append = λ event silent. lasting (append event) (λ from. (grows_closed from).of_append event silent) (λ n. (falls_closed n).of_append event silent) (append_extends event);
+  of_append = λ event plain. lasting (append event) (λ from. (grows_closed from).of_append event plain) (λ n. (falls_closed n).of_append event plain) (append_extends event);
   of_next_told = lasting next_told (λ from. (grows_closed from).of_next_told) (λ n. (falls_closed n).of_next_told) next_told_extends;
   of_begin_told = lasting begin_told (λ from. (grows_closed from).of_begin_told) (λ n. (falls_closed n).of_begin_told) begin_told_extends;
   of_next_byte = lasting next_byte (λ from. (grows_closed from).of_next_byte) (λ n. (falls_closed n).of_next_byte) next_byte_extends;

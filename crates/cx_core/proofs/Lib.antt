@@ -3,6 +3,7 @@ mod Everywhere
 mod EverywhereMeaning
 mod Invariant
 mod BeginsTold
+mod InputRead
 mod Numbered
 mod LargerBudget
 mod Budget

@@ -50,3 +50,9 @@ abbrev pub begins_of : List Event → List Evaluation
 begins_of [] = []
 begins_of (begin e ∷ events) = e ∷ begins_of events
 begins_of (event ∷ events) = begins_of events
+
+-- the bytes of the input that they read, in order
+abbrev pub inputs_of : List Event → List ℕ
+inputs_of [] = []
+inputs_of (input b ∷ events) = b ∷ inputs_of events
+inputs_of (event ∷ events) = inputs_of events

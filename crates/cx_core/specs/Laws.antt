@@ -2,7 +2,7 @@
 use Rattle.std.specs.Prelude.{◌≡◌, ◌≢◌, ℕ, ◌+◌, ◌<◌, List, [], ◌∷◌, ◌++◌}
 use Rattle.cx_core.specs.Program.{Program}
 use Rattle.cx_core.specs.Store.{Value, Store}
-use Rattle.cx_core.specs.Event.{Evaluation, Event, going, begins_of}
+use Rattle.cx_core.specs.Event.{Evaluation, Event, going, begins_of, inputs_of}
 use Rattle.cx_core.specs.Outcome.{State, Outcome, on, thrown, over}
 use Rattle.cx_core.specs.Leaving.{Call}
 use Rattle.cx_core.specs.Meaning.{mean, calls_within, start}
@@ -12,6 +12,17 @@ abbrev pub BeginsAreTheFirstTold : Type 0
 BeginsAreTheFirstTold =
     (program : Program) (begins : List Evaluation) (input : List ℕ) (budget : ℕ) →
     (rest : List Evaluation) × (begins_of (mean program begins input budget).trace ++ rest ≡ begins)
+
+-- the bytes that a run reads are the first of the input
+abbrev pub InputIsReadInOrder : Type 0
+InputIsReadInOrder =
+    (program : Program) (begins : List Evaluation) (input : List ℕ) (budget : ℕ) →
+    (rest : List ℕ) × (inputs_of (mean program begins input budget).trace ++ rest ≡ input)
+
+-- without budget nothing is said
+abbrev pub NoBudgetSaysNothing : Type 0
+NoBudgetSaysNothing =
+    (program : Program) (begins : List Evaluation) (input : List ℕ) → mean program begins input 0 ≡ record { trace = []; answer = going }
 
 -- an answer that isn't for want of budget stays under a larger one, and the events with it
 abbrev pub LargerBudgetChangesNoEnding : Type 0

@@ -285,8 +285,8 @@ module _ (program : Program) (calls : Calls) where
   -- a call that becomes active
   abbrev pub active : Call → Does Value
   active c = do
-    f ← some (slice_get program.functions c.function)
     spend
+    f ← some (slice_get program.functions c.function)
     within (record { unit = unit_of f c; variables = numbered 0 c.arguments; result = c.result }) (acting f.body f c)
 
 abbrev pub is_implicit_at : Program → ℕ → Bool

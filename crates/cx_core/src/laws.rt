@@ -1,5 +1,5 @@
 //! Laws of the meaning. Each function does nothing: its contract is the law.
-ghost use Rattle.cx_core.specs.Laws.{BeginsAreTheFirstTold, LargerBudgetChangesNoEnding, LargerBudgetOnlyAddsEvents, ObjectsStayNumbered};
+ghost use Rattle.cx_core.specs.Laws.{BeginsAreTheFirstTold, InputIsReadInOrder, NoBudgetSaysNothing, LargerBudgetChangesNoEnding, LargerBudgetOnlyAddsEvents, ObjectsStayNumbered};
 
 /// The evaluations that a run begins are the first of those that it is told.
 pub fn begins_are_the_first_told()
@@ -21,3 +21,15 @@ pub fn larger_budget_only_adds_events()
 pub fn objects_stay_numbered()
     ensures { ObjectsStayNumbered }
 {}
+
+/// The bytes that a run reads are the first of its input.
+pub fn input_is_read_in_order()
+    ensures { InputIsReadInOrder }
+{
+}
+
+/// With no budget the answer is that the run goes on, and there is no event.
+pub fn no_budget_says_nothing()
+    ensures { NoBudgetSaysNothing }
+{
+}
