@@ -9,3 +9,5 @@ mod Exceptions
 mod Handlers
 mod Account
 mod Depth
+mod Made
+mod Lifetimes
