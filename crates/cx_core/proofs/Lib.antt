@@ -1,0 +1,9 @@
+mod rows
+mod Everywhere
+mod EverywhereMeaning
+mod Invariant
+mod BeginsTold
+mod InputRead
+mod Numbered
+mod LargerBudget
+mod Budget

@@ -1,0 +1,126 @@
+use crate::{Constant, Initializer, Operand, Statement};
+use cx_code::AssertionKind;
+use cx_outside::Text;
+use cx_types::ValueType;
+
+/// A unit whose names, types and contracts are checked. Its parts go by their index in its tables.
+#[derive(Drop)]
+pub struct CoreUnit {
+    pub name: Text,
+    pub classes: Vec<Class>,
+    pub globals: Vec<Global>,
+    /// Each function that the unit declares, names or needs, with its first declaration in the unit.
+    pub functions: Vec<Function>,
+    pub assertions: Vec<Assertion>,
+}
+
+/// A class [class]; one that is only declared has no definition.
+#[derive(Drop)]
+pub struct Class {
+    pub name: Text,
+    pub definition: Option<ClassDefinition>,
+}
+
+/// The layout of a class, and the functions that make, copy and destroy its objects.
+#[derive(Drop)]
+pub struct ClassDefinition {
+    /// In order of declaration.
+    pub fields: Vec<Field>,
+    pub leaves: Vec<LeafKind>,
+    /// The class objects in an object of the class, itself included.
+    pub objects: u32,
+    /// The constructor without parameters, declared or implicit, if there is one.
+    pub default_constructor: Option<u32>,
+    pub copy_constructor: u32,
+    pub destructor: u32,
+}
+
+/// A field, by the first of its leaves.
+#[derive(Clone, Copy, Debug, PartialEq, Eq)]
+pub struct Field {
+    pub leaf: u32,
+    pub of: ValueType,
+}
+
+/// What zero-initialisation makes of a leaf.
+#[derive(Clone, Copy, Debug, PartialEq, Eq)]
+pub enum LeafKind {
+    Number,
+    Pointer,
+    /// The one leaf of a class without fields.
+    Empty,
+}
+
+/// A global; one that is only declared has no value.
+#[derive(Drop)]
+pub struct Global {
+    pub name: Text,
+    pub value: Option<Constant>,
+}
+
+/// A function, member function, constructor or destructor.
+#[derive(Drop)]
+pub struct Function {
+    /// As assertions name it: `f`, `T::f`, `T::f.const`, `T::T`, `T::T.copy` or `T::~T`.
+    pub name: Text,
+    pub noexcept: bool,
+    pub result: ResultKind,
+    /// The function contract specifiers of its first declaration in this unit.
+    pub preconditions: Vec<Specifier>,
+    pub postconditions: Vec<Specifier>,
+    /// Its definition in this unit, if there is one.
+    pub body: Option<Body>,
+}
+
+/// What a call gives.
+#[derive(Clone, Copy, Debug, PartialEq, Eq)]
+pub enum ResultKind {
+    Void,
+    ScalarValue,
+    /// The scalar result of a function with a postcondition.
+    ScalarObject,
+    ClassObject(u32),
+    Reference,
+    /// The result of `main`.
+    ExitStatus,
+}
+
+/// A function contract specifier [dcl.contract.func]: an assertion and its predicate.
+#[derive(Drop)]
+pub struct Specifier {
+    pub assertion: u32,
+    pub predicate: Operand,
+}
+
+/// A contract assertion of the unit.
+#[derive(Drop)]
+pub struct Assertion {
+    pub kind: AssertionKind,
+    pub name: Text,
+    pub file: Text,
+    pub line: u32,
+    pub column: u32,
+    /// The tokens of its predicate with one space between two.
+    pub comment: Text,
+}
+
+/// What a call does between its checks.
+#[derive(Drop)]
+pub enum Body {
+    Function(Vec<Statement>),
+    ViolationHandler(Vec<Statement>),
+    Constructor(Vec<FieldInitializer>, Vec<Statement>),
+    /// Of the class with this index, as are the implicit ones.
+    Destructor(u32, Vec<Statement>),
+    ImplicitConstructor(u32),
+    ImplicitCopyConstructor(u32),
+    ImplicitDestructor(u32),
+}
+
+/// The initialiser of a field, in a constructor of its class.
+#[derive(Drop)]
+pub struct FieldInitializer {
+    pub leaf: u32,
+    pub of: ValueType,
+    pub init: Initializer,
+}
