@@ -21,9 +21,14 @@ abbrev pub first_left : Option ℕ → ℕ
 first_left None = 0
 first_left (Some after) = after + 1
 
+-- the first of the regions that covers the place; the index is that of the first of them
+abbrev pub first_covering : List Region → ℕ → ℕ → Option ℕ
+first_covering [] index place = None
+first_covering (region ∷ regions) index place = if covers place region then Some index else first_covering regions (index + 1) place
+
 -- the next region that covers the place
 abbrev pub next_region : List Region → ℕ → Option ℕ → Option ℕ
-next_region regions place after = option_map (λ k. first_left after + k) (position (covers place) (drop (first_left after) regions))
+next_region regions place after = first_covering (drop (first_left after) regions) (first_left after) place
 
 abbrev pub regions_of : Option Function → List Region
 regions_of None = []
