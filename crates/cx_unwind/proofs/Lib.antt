@@ -1,0 +1,4 @@
+mod Changes
+mod Covering
+mod Layers
+mod Fronts
