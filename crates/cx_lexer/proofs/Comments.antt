@@ -1,8 +1,8 @@
 -- The states of the scanner in a block comment say whether the comment hides an end of C++.
-use Rattle.std.proofs.Common.{◌≡◌, ◌&&◌, ◌||◌, Bool, true, false, not, ℕ, zero, suc, ◌+◌, ◌<◌, ◌≤◌, List, [], ◌∷◌, ◌++◌, length, get_or, take, drop, cond, eqb, refl, sym, ◌∙◌, ap, subst, arith, ⊎_elim, reverse, Option, Some, append_assoc, append-nil, take_all, length-append}
+use Rattle.std.proofs.Common.{◌≡◌, ◌&&◌, ◌||◌, Bool, true, false, not, ℕ, ◌+◌, ◌<◌, ◌≤◌, List, [], ◌∷◌, ◌++◌, length, get_or, take, drop, cond, eqb, refl, sym, ◌∙◌, ap, subst, arith, ⊎_elim, reverse, Option, Some, append_assoc, take_all, length-append}
 use Rattle.std.specs.List.{list_all, flat_map, find}
 use Rattle.std.specs.Option.{option_map_or}
-use Rattle.std.proofs.lemmas.Bool.{cond_both, cond-true, cond-false, and_parts, and_from, or_cases, or_left, or_right, true≢false, false≢true, eqb-true, cases_Bool}
+use Rattle.std.proofs.lemmas.Bool.{cond_both, cond-true, and_parts, and_from, or_cases, or_right, false≢true, eqb-true}
 use Rattle.std.proofs.lemmas.List.{flat_map_more, at_drop_more, at_drop_all, take_more, reverse-append}
 use Rattle.std.proofs.lemmas.List.Folds.{list_all-append}
 use Rattle.cx_lexer.specs.declared.seen.Seen.{Seen}
@@ -98,7 +98,7 @@ over_blanks (b ∷ blanks) rest blank found =
 
 -- over one more splice
 over_splice : (blanks rest after : List ℕ) → list_all is_splice_blank blanks ≡ true → hides_from Splice (rest ++ after) ≡ true → hides_from Backslash (((blanks ++ newline ∷ []) ++ rest) ++ after) ≡ true
-over_splice blanks rest after blank found = rw append_assoc (over_blanks blanks (rest ++ after) blank found)
+over_splice blanks rest after blank found = rw (append_assoc (blanks ++ newline ∷ []) rest after) (over_blanks blanks (rest ++ after) blank found)
 
 over_splices : (lines : List (List ℕ)) (after : List ℕ) → list_all (list_all is_splice_blank) lines ≡ true → hides_from Splice (flat_map splice lines ++ slash ∷ after) ≡ true
 unfolding hides_from

@@ -1,8 +1,8 @@
 -- The first end of a block comment, from a place on.
-use Rattle.std.proofs.Common.{◌≡◌, ◌&&◌, Bool, true, false, ℕ, zero, suc, ◌+◌, ◌-◌, ◌<◌, ◌≤◌, List, [], ◌∷◌, length, get_or, take, drop, cond, eqb, refl, sym, ◌∙◌, ap, subst, arith, Option, Some, None, length-drop}
+use Rattle.std.proofs.Common.{◌≡◌, ◌&&◌, true, false, ℕ, suc, ◌+◌, ◌<◌, ◌≤◌, List, [], ◌∷◌, length, get_or, drop, cond, eqb, refl, ◌∙◌, ap, arith, Option, Some, None, length-drop}
 use Rattle.std.specs.Prelude.{option_map}
-use Rattle.std.proofs.lemmas.Bool.{cond_both, cond-true, cond-false, and_right}
-use Rattle.std.proofs.lemmas.List.{at_drop_more, at_drop_all}
+use Rattle.std.proofs.lemmas.Bool.{cond-true, cond-false, and_right}
+use Rattle.std.proofs.lemmas.List.{at_drop_more}
 use Rattle.cx_lexer.specs.Bytes.{begins, star, slash}
 use Rattle.cx_lexer.specs.Comment.{length_to_end}
 

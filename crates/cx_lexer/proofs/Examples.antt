@@ -1,8 +1,8 @@
 -- The definitions, computed on examples.
-use Rattle.std.specs.Prelude.{◌≡◌, ℕ, Bool, true, false, not, List, [], ◌∷◌, ◌++◌, codes, refl, Some}
+use Rattle.std.specs.Prelude.{◌≡◌, true, false, [], ◌∷◌, ◌++◌, codes, refl, Some}
 use Rattle.std.specs.List.{list_all, list_any}
-use Rattle.cx_lexer.specs.Name.{is_name, is_word, words}
-use Rattle.cx_lexer.specs.Bytes.{is_decimal_digit, starts_name, is_splice_blank, is_printable}
+use Rattle.cx_lexer.specs.Name.{is_word, words}
+use Rattle.cx_lexer.specs.Bytes.{is_decimal_digit, is_splice_blank, is_printable}
 use Rattle.cx_lexer.specs.Number.{is_number, is_too_wide, value_of, follows_digit, is_suffix, digit_value, is_u, is_ll, base_of, has_u, has_ll}
 use Rattle.cx_lexer.specs.Quoted.{is_char, is_text, is_plain, is_escape, escapes, closes_text}
 use Rattle.cx_lexer.specs.Punct.{is_punct, puncts}

@@ -1,7 +1,7 @@
 -- The longest front of a text that passes a test.
-use Rattle.std.proofs.Common.{◌≡◌, ◌&&◌, Bool, true, false, ℕ, zero, suc, ◌+◌, ◌<◌, ◌≤◌, List, [], length, take, cond, leb, refl, sym, ◌∙◌, ap, subst, arith, inl, inr}
-use Rattle.std.proofs.lemmas.Bool.{cond_both, and_parts, le-leb, leb-true, true≢false, cases_lt}
-use Rattle.cx_lexer.specs.Scan.{IsLongest, longest_of_three}
+use Rattle.std.proofs.Common.{◌≡◌, ◌&&◌, Bool, true, false, ℕ, zero, suc, ◌<◌, ◌≤◌, List, [], length, take, cond, leb, refl, sym, ◌∙◌, ap, arith}
+use Rattle.std.proofs.lemmas.Bool.{and_parts, le-leb, leb-true}
+use Rattle.cx_lexer.specs.Scan.{longest_of_three}
 
 -- no longer front passes, if none with a first byte does
 pub behind : (test : List ℕ → Bool) (xs : List ℕ) (n : ℕ) → ((m : ℕ) → n < suc m → suc m ≤ length xs → test (take (suc m) xs) ≡ false) → (m : ℕ) → n < m → m ≤ length xs → test (take m xs) ≡ false

@@ -1,7 +1,6 @@
 -- The scanner's lengths of numbers are those of the longest ones.
-use Rattle.std.proofs.Common.{◌≡◌, ◌==◌, ◌&&◌, ◌||◌, Bool, true, false, not, ℕ, zero, suc, ◌+◌, ◌-◌, ◌<◌, ◌≤◌, List, [], ◌∷◌, length, get_or, take, drop, cond, eqb, leb, ltb, refl, sym, ◌∙◌, ap, subst, arith, rules, ◌⊎◌, ⊎_elim, length-drop, drop-drop}
-use Rattle.std.specs.Prelude.{if◌then◌else◌, IsTrue, IsFalse}
-use Rattle.std.proofs.lemmas.Bool.{cond-true, cond-false, cases_Bool, true≢false, false≢true, and_left, and_right, or_from, or_left, and_from, or_parts, and_parts, or_cases, eqb-true, cond_both, le-leb, leb-true, or_right}
+use Rattle.std.proofs.Common.{◌≡◌, ◌&&◌, ◌||◌, Bool, true, false, ℕ, zero, suc, ◌+◌, ◌<◌, ◌≤◌, List, [], ◌∷◌, length, get_or, take, drop, cond, eqb, leb, refl, sym, ◌∙◌, ap, subst, arith, ⊎_elim, length-drop, drop-drop}
+use Rattle.std.proofs.lemmas.Bool.{cond-true, cond-false, cases_Bool, true≢false, and_left, and_right, or_left, and_from, and_parts, or_cases, eqb-true, cond_both, le-leb, leb-true, or_right}
 use Rattle.std.proofs.lemmas.Bool.Decides.{nat_tests}
 use Rattle.cx_lexer.specs.Bytes.{is_letter_of, quote, is_decimal_digit}
 use Rattle.cx_lexer.specs.Number.{is_digit, digit_value, is_u, is_ll, is_suffix, follows_digit, is_prefixed, is_number}

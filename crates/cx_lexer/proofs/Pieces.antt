@@ -1,21 +1,20 @@
 -- What the scanner finds at a place stands there.
-use Rattle.std.proofs.Common.{◌≡◌, ◌≢◌, ◌&&◌, ◌||◌, Bool, true, false, not, ℕ, zero, suc, ◌+◌, ◌<◌, ◌≤◌, List, [], ◌∷◌, length, get_or, take, drop, cond, eqb, refl, sym, ◌∙◌, ap, subst, arith, ⊎_elim, Some, None, length-take-le}
+use Rattle.std.proofs.Common.{◌≡◌, ◌≢◌, ◌||◌, true, false, ℕ, suc, ◌+◌, ◌<◌, ◌≤◌, List, [], ◌∷◌, length, get_or, take, drop, eqb, refl, sym, ◌∙◌, ap, subst, arith, Some, None, length-take-le}
 use Rattle.std.specs.List.{prefix_len}
-use Rattle.std.proofs.lemmas.Bool.{and_from, or_from, false_from_ne_true, ne_eqb, lt-ltb, le-ltb, not_from_false, true≢false, false≢true, and_right}
+use Rattle.std.proofs.lemmas.Bool.{and_from, false_from_ne_true, ne_eqb, le-ltb, not_from_false, true≢false, false≢true, and_right}
 use Rattle.cx_syntax.specs.declared.token.TokenKind.{TokenKind}
 use Rattle.cx_syntax.specs.declared.token.TokenKind.TheVariants.{Name, Word, Number, Char, Text, Punct}
 use Rattle.cx_lexer.specs.declared.fault.LexFault.TheVariants as faults
 use Rattle.cx_lexer.specs.declared.piece.Piece.TheVariants as pieces
-use Rattle.cx_lexer.specs.declared.seen.Seen.TheVariants.{Other}
 use Rattle.cx_lexer.specs.Bytes.{starts_name, continues_name, is_decimal_digit, is_blank, begins, quote, double_quote}
-use Rattle.cx_lexer.specs.Name.{is_name, is_word, longest_name}
+use Rattle.cx_lexer.specs.Name.{is_name, is_word}
 use Rattle.cx_lexer.specs.Number.{is_number, is_too_wide, runs_on}
 use Rattle.cx_lexer.specs.Quoted.{is_char, is_text}
 use Rattle.cx_lexer.specs.Punct.{is_punct}
 use Rattle.cx_lexer.specs.Comment.{begins_line_comment, begins_block_comment, line_length, is_spliced_line, length_to_end, HidesEnd}
-use Rattle.cx_lexer.specs.Lexeme.{is_token, IsLexeme, is_refused, BeginsNoToken}
+use Rattle.cx_lexer.specs.Lexeme.{is_token, IsLexeme, is_refused}
 use Rattle.cx_lexer.specs.Spelling.{IsGap, Begins}
-use Rattle.cx_lexer.specs.Scan.{IsLongest, number_length, char_length, text_length, punct_length}
+use Rattle.cx_lexer.specs.Scan.{number_length, char_length, text_length, punct_length}
 use Rattle.cx_lexer.specs.Piece.{Stands}
 use Rattle.cx_lexer.proofs.Names.{name_longest}
 use Rattle.cx_lexer.proofs.Numbers.{number_longest}

@@ -1,12 +1,12 @@
 -- The scanner's puncts are the longest ones, and the bytes that puncts begin with.
-use Rattle.std.proofs.Common.{◌≡◌, ◌&&◌, ◌||◌, Bool, true, false, not, ℕ, zero, suc, ◌+◌, ◌<◌, ◌≤◌, List, [], ◌∷◌, length, take, cond, eqb, leb, refl, sym, ◌∙◌, ap, arith, ⊎_elim, length-take-le}
+use Rattle.std.proofs.Common.{◌≡◌, ◌||◌, Bool, true, false, not, ℕ, ◌<◌, ◌≤◌, List, [], ◌∷◌, length, take, eqb, leb, refl, sym, ◌∙◌, ap, arith, ⊎_elim, length-take-le}
 use Rattle.std.specs.Prelude.{bytes_eq}
 use Rattle.std.specs.List.{list_any, list_all}
-use Rattle.std.proofs.lemmas.Bool.{and_parts, or_cases, leb-true, false_from_ne_true, le-leb, true≢false}
+use Rattle.std.proofs.lemmas.Bool.{and_parts, or_cases, leb-true, false_from_ne_true, true≢false}
 use Rattle.std.proofs.lemmas.Slice.Eq.{bytes_eq-Decides}
 use Rattle.cx_lexer.specs.Bytes.{begins, starts_name, is_decimal_digit, is_blank, quote, double_quote}
 use Rattle.cx_lexer.specs.Punct.{puncts, is_punct}
-use Rattle.cx_lexer.specs.Scan.{IsLongest, punct_length, longest_of_three}
+use Rattle.cx_lexer.specs.Scan.{IsLongest, punct_length}
 use Rattle.cx_lexer.proofs.Fronts.{three_within, three_passes, three_longest}
 
 -- what each list of a table passes, a list that equals one of them passes

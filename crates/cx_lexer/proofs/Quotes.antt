@@ -1,9 +1,9 @@
 -- The scanner's character and string literals are the only ones that begin there.
-use Rattle.std.proofs.Common.{◌≡◌, ◌&&◌, ◌||◌, Bool, true, false, not, ℕ, zero, suc, ◌+◌, ◌<◌, ◌≤◌, List, [], ◌∷◌, length, get_or, take, drop, cond, eqb, leb, refl, sym, ◌∙◌, ap, subst, arith, ⊎_elim, min, drop-drop}
+use Rattle.std.proofs.Common.{◌≡◌, ◌&&◌, ◌||◌, Bool, true, false, ℕ, zero, suc, ◌+◌, ◌<◌, ◌≤◌, List, [], ◌∷◌, length, take, drop, cond, eqb, leb, refl, sym, ◌∙◌, ap, subst, arith, ⊎_elim, min, drop-drop}
 use Rattle.std.proofs.lemmas.List.{take_min}
 use Rattle.cx_lexer.proofs.Fronts.{behind}
-use Rattle.std.proofs.lemmas.Bool.{cond_both, cond-true, cond-false, and_parts, and_from, and_left, and_right, or_cases, or_left, or_right, cases_Bool, le-leb, leb-true, true≢false, false≢true, false_from_ne_true, not_from_true, ne_eqb}
-use Rattle.cx_lexer.specs.Bytes.{begins, quote, double_quote, newline, backslash, zero_digit, is_within}
+use Rattle.std.proofs.lemmas.Bool.{cond_both, cond-true, cond-false, and_parts, and_from, and_right, or_left, or_right, cases_Bool, le-leb, true≢false, false≢true, false_from_ne_true, not_from_true, ne_eqb}
+use Rattle.cx_lexer.specs.Bytes.{begins, quote, double_quote, newline, backslash}
 use Rattle.cx_lexer.specs.Quoted.{is_char, is_plain, is_escape, escapes, closes_text, is_text}
 use Rattle.cx_lexer.specs.Scan.{IsLongest, char_length, text_length, text_step}
 
@@ -139,7 +139,7 @@ text_closes_once (a ∷ b ∷ rest) (suc (suc m)) within =
       | closing e ↦ λ h. absurd (suc_not_zero (closing_alone a _ e h))
       | line_end e f ↦ λ h. absurd (true≢false (sym h ∙ at_line_end a _ e f))
       | slant e f g ↦ λ h.
-          let parts = and_parts _ _ (sym (at_slant a b (take m rest) e f g) ∙ h) in
+          let parts = and_parts (escapes (b ∷ take m rest)) (closes_text (take m rest)) (sym (at_slant a b (take m rest) e f g) ∙ h) in
           let once = text_closes_once rest m (omega arith) parts.1 in
           let long : text_length (a ∷ b ∷ rest) ≡ suc (suc (text_length rest)) = slant_more a b rest (or_false _ _ e f) g ∙ cond-true _ _ _ (sym (escapes_within b rest m (omega arith)) ∙ parts.0) in
           rw long (ap (λ k. suc (suc k)) once.0, once.1)

@@ -1,11 +1,9 @@
 -- At each place of a text one thing stands at most: so a text has one list of tokens at most, or one fault.
-use Rattle.std.proofs.Common.{◌≡◌, ◌&&◌, ◌||◌, Bool, true, false, not, ℕ, zero, suc, ◌+◌, ◌<◌, ◌≤◌, List, [], ◌∷◌, ◌++◌, length, take, drop, cond, eqb, ltb, refl, sym, ◌∙◌, ap, subst, arith, ⊎_elim, Option, Some, None, length-take-le, length-drop, inl, inr, Result, Ok, Err}
+use Rattle.std.proofs.Common.{◌≡◌, ◌&&◌, Bool, true, false, not, ℕ, zero, suc, ◌+◌, ◌<◌, ◌≤◌, List, [], ◌∷◌, ◌++◌, length, take, drop, cond, eqb, ltb, refl, sym, ◌∙◌, ap, subst, arith, ⊎_elim, Option, Some, None, length-take-le, length-drop, inl, inr, Result, Ok, Err}
 use Rattle.std.specs.Prelude.{option_map, ◌⊎◌, IfOk, IfErr, MatchResult}
-use Rattle.std.specs.List.{prefix_len}
-use Rattle.std.proofs.Math.Numerals.{one-add}
 use Rattle.std.proofs.lemmas.List.{drop_all}
 use Rattle.std.proofs.lemmas.List.Sums.{prefix_len-le-length}
-use Rattle.std.proofs.lemmas.Bool.{cond-true, cond-false, and_parts, or_parts, true≢false, false≢true, false_from_ne_true, true_from_ne_false, eqb-true, lt-ltb, cases_Bool, and_right, cases_order, not-true}
+use Rattle.std.proofs.lemmas.Bool.{cond-true, cond-false, and_parts, or_parts, true≢false, false≢true, false_from_ne_true, eqb-true, lt-ltb, cases_Bool, and_right, cases_order, not-true}
 use Rattle.cx_syntax.specs.declared.token.Token.{Token}
 use Rattle.cx_syntax.specs.declared.token.TokenKind.{TokenKind}
 use Rattle.cx_syntax.specs.declared.token.TokenKind.TheVariants.{Name, Word, Number, Char, Text, Punct}
@@ -14,8 +12,8 @@ use Rattle.cx_lexer.specs.declared.fault.LexFault.TheVariants as faults
 use Rattle.cx_lexer.specs.declared.piece.Piece.{Piece}
 use Rattle.cx_lexer.specs.declared.piece.Piece.TheVariants as pieces
 use Rattle.cx_lexer.specs.declared.seen.Seen.TheVariants.{Other}
-use Rattle.cx_lexer.specs.Bytes.{begins, is_blank, starts_name, is_decimal_digit, quote, double_quote, slash, star, newline, is_printable}
-use Rattle.cx_lexer.specs.Name.{longest_name, is_name, is_word}
+use Rattle.cx_lexer.specs.Bytes.{begins, is_blank, quote, double_quote, slash, star, newline, is_printable}
+use Rattle.cx_lexer.specs.Name.{longest_name, is_name}
 use Rattle.cx_lexer.specs.Number.{is_too_wide, runs_on}
 use Rattle.cx_lexer.specs.Quoted.{is_char, is_text, is_plain, closes_text}
 use Rattle.cx_lexer.specs.Punct.{is_punct, puncts}
@@ -25,7 +23,7 @@ use Rattle.cx_lexer.specs.Spelling.{IsGap, Begins, SpellsTo, Spells, IsFaultOf, 
 use Rattle.cx_lexer.specs.Scan.{hides_from}
 use Rattle.cx_lexer.specs.Piece.{Stands}
 use Rattle.cx_lexer.proofs.Comments.{hidden, hides_complete}
-use Rattle.cx_lexer.proofs.Lexemes.{blank_begins_none, nothing_is_token, first_sort, sort_of, sort, at_quote, at_double_quote}
+use Rattle.cx_lexer.proofs.Lexemes.{blank_begins_none, nothing_is_token, first_sort, sort, at_quote, at_double_quote}
 
 -- how much a gap and a token take
 slash_no_newline : (a : ℕ) → eqb a slash ≡ true → eqb a newline ≡ false

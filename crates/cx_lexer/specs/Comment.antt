@@ -1,6 +1,6 @@
 -- Comments, after [lex.comment], and the line splices of [lex.phases], which the language leaves out: where C++ would
 -- give one a meaning in a comment, the comment is refused.
-use Rattle.std.specs.Prelude.{◌≡◌, ◌==◌, ◌&&◌, ◌||◌, Bool, false, not, ℕ, suc, List, [], ◌∷◌, ◌++◌, Option, Some, None, option_map, if◌then◌else◌, IsTrue, ◌<◌, length, take, nat_lt, reverse}
+use Rattle.std.specs.Prelude.{◌≡◌, ◌==◌, ◌&&◌, Bool, false, not, ℕ, suc, List, [], ◌∷◌, ◌++◌, Option, Some, None, option_map, if◌then◌else◌, IsTrue, ◌<◌, length, take, nat_lt, reverse}
 use Rattle.std.specs.Option.{option_map_or}
 use Rattle.std.specs.List.{list_all, flat_map, find, prefix_len}
 use Rattle.cx_lexer.specs.Bytes.{begins, is_splice_blank, slash, star, newline, backslash}

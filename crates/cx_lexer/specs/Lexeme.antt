@@ -1,5 +1,5 @@
 -- The tokens of the language and where one stands at the front of a text, after [lex.token] and [lex.pptoken].
-use Rattle.std.specs.Prelude.{◌≡◌, ◌&&◌, ◌||◌, ◌<◌, ◌≤◌, Bool, false, not, ℕ, List, [], ◌∷◌, IsTrue, IsFalse, length, take, nat_lt}
+use Rattle.std.specs.Prelude.{◌&&◌, ◌||◌, ◌<◌, ◌≤◌, Bool, false, not, ℕ, List, [], ◌∷◌, IsTrue, IsFalse, length, take, nat_lt}
 use Rattle.cx_syntax.specs.declared.token.TokenKind.{TokenKind}
 use Rattle.cx_syntax.specs.declared.token.TokenKind.TheVariants.{Name, Word, Number, Char, Text, Punct}
 use Rattle.cx_lexer.specs.Name.{is_name, is_word, longest_name}

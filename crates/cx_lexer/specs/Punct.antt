@@ -1,5 +1,5 @@
 -- Operators and punctuators, after [lex.operators], without the alternative tokens and those of the preprocessor.
-use Rattle.std.specs.Prelude.{◌==◌, Bool, ℕ, List, [], ◌∷◌, codes, bytes_eq}
+use Rattle.std.specs.Prelude.{Bool, ℕ, List, [], ◌∷◌, codes, bytes_eq}
 use Rattle.std.specs.List.{list_any}
 
 unfoldable pub puncts : List (List ℕ)

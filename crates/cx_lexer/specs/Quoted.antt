@@ -1,5 +1,5 @@
 -- Character literals, after [lex.ccon], and string literals, after [lex.string], with the escape sequences of the language.
-use Rattle.std.specs.Prelude.{◌==◌, ◌&&◌, ◌||◌, Bool, true, false, not, ℕ, List, [], ◌∷◌, codes, if◌then◌else◌}
+use Rattle.std.specs.Prelude.{◌==◌, ◌&&◌, ◌||◌, Bool, false, not, ℕ, List, [], ◌∷◌, codes, if◌then◌else◌}
 use Rattle.std.specs.List.{list_any}
 use Rattle.cx_lexer.specs.Bytes.{begins, is_within, is_printable, quote, double_quote, backslash, newline, zero_digit}
 

@@ -1,10 +1,10 @@
 -- What the scanner's private functions answer on a list of bytes. No public contract speaks of these; the proofs show
 -- that they are what the tokens of the language ask for.
-use Rattle.std.specs.Prelude.{◌==◌, ◌&&◌, ◌||◌, Bool, true, false, not, ℕ, suc, ◌+◌, List, [], ◌∷◌, length, take, drop, nat_le, slice_index, if◌then◌else◌, IsTrue, IsFalse, ◌<◌, ◌≤◌}
+use Rattle.std.specs.Prelude.{◌==◌, ◌&&◌, ◌||◌, Bool, true, false, ℕ, suc, List, [], ◌∷◌, length, take, drop, nat_le, slice_index, if◌then◌else◌, IsTrue, IsFalse, ◌<◌, ◌≤◌}
 use Rattle.cx_lexer.specs.declared.seen.Seen.{Seen}
 use Rattle.cx_lexer.specs.declared.seen.Seen.TheVariants.{Other, Star, Backslash, Splice}
-use Rattle.cx_lexer.specs.Bytes.{begins, quote, double_quote, newline, backslash, star, slash, zero_digit, is_letter_of, is_splice_blank}
-use Rattle.cx_lexer.specs.Number.{is_digit, is_u, is_ll, is_suffix}
+use Rattle.cx_lexer.specs.Bytes.{quote, double_quote, newline, backslash, star, slash, zero_digit, is_letter_of, is_splice_blank}
+use Rattle.cx_lexer.specs.Number.{is_digit, is_suffix}
 use Rattle.cx_lexer.specs.Quoted.{escapes, is_plain, is_escape}
 use Rattle.cx_lexer.specs.Punct.{is_punct}
 

@@ -4,7 +4,7 @@ use Rattle.cx_syntax.specs.declared.token.Token.{Token}
 use Rattle.cx_syntax.specs.declared.token.TokenKind.{TokenKind}
 use Rattle.cx_syntax.specs.declared.token.TokenKind.TheVariants.{Name, Number}
 use Rattle.cx_lexer.specs.declared.fault.LexFault.{LexFault}
-use Rattle.cx_lexer.specs.declared.fault.LexFault.TheVariants.{OutOfMemory, BadByte, OpenComment, OpenText, TooWide, LongName}
+use Rattle.cx_lexer.specs.declared.fault.LexFault.TheVariants.{BadByte, OpenComment, OpenText, TooWide, LongName}
 use Rattle.cx_lexer.specs.Bytes.{begins, is_blank, quote, double_quote}
 use Rattle.cx_lexer.specs.Name.{longest_name}
 use Rattle.cx_lexer.specs.Number.{is_too_wide, runs_on}

@@ -314,6 +314,15 @@ static FAULTS: [(&[u8], LexFault); 60] = [
     (b"a @ \"", LexFault::BadByte(2)),
 ];
 
+// The tests go over what these give, so that no proof reads the tables.
+fn tokens() -> &'static [Row] {
+    &TOKENS
+}
+
+fn faults() -> &'static [(&'static [u8], LexFault)] {
+    &FAULTS
+}
+
 fn compare(rt: &impl Abort, alloc: Global, row: &Row) -> Result<(), Fail> {
     let (text, want) = *row;
     assert!(rt; text.len() < 100);
@@ -344,7 +353,7 @@ fn compare_fault(rt: &impl Abort, alloc: Global, text: &[u8], want: LexFault) {
 
 #[test]
 fn texts_have_these_tokens(rt: HostRuntime) -> Result<(), Fail> {
-    for row in &TOKENS {
+    for row in tokens() {
         compare(&rt, rt.alloc(), row)?;
     }
     Ok(())
@@ -352,7 +361,7 @@ fn texts_have_these_tokens(rt: HostRuntime) -> Result<(), Fail> {
 
 #[test]
 fn texts_have_these_faults(rt: HostRuntime) {
-    for (text, fault) in &FAULTS {
+    for (text, fault) in faults() {
         compare_fault(&rt, rt.alloc(), text, *fault);
     }
 }
@@ -377,7 +386,7 @@ fn a_token_has_its_bytes(rt: HostRuntime) -> Result<(), Fail> {
     let tokens = lex(rt.alloc(), text)?;
     assert_eq!(rt; tokens.items().len(), 3);
     let name = tokens.items()[1];
-    assert!(rt; name.start <= name.end && name.end as usize <= text.len());
+    assert!(rt; name.start <= name.end && name.end <= 14);
     assert_eq!(rt; text_of(text, &name), b"answer".as_slice());
     Ok(())
 }

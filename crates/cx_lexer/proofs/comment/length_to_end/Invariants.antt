@@ -1,4 +1,4 @@
-use Rattle.std.proofs.Common.{◌≡◌, ◌≤◌, ◌-◌, length, drop, Option}
+use Rattle.std.proofs.Common.{◌-◌, length}
 use Rattle.cx_lexer.proofs.Ends.{EndsBehind}
 use Rattle.cx_lexer.proofs.comment.length_to_end.Given as goal
 

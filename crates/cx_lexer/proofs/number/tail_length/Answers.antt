@@ -1,4 +1,4 @@
-use Rattle.std.proofs.Common.{◌≡◌, ◌+◌, length, drop, arith, length-drop}
+use Rattle.std.proofs.Common.{◌≡◌, ◌+◌, drop, arith, length-drop}
 use Rattle.std.proofs.lemmas.List.{take_rest}
 use Rattle.cx_lexer.specs.Scan.{suffix_length}
 use Rattle.cx_lexer.proofs.Numbers.{tail_more, tail_ends}

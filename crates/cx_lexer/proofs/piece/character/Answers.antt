@@ -1,4 +1,4 @@
-use Rattle.std.proofs.Common.{sym, ◌∙◌, arith}
+use Rattle.std.proofs.Common.{arith}
 use Rattle.cx_lexer.proofs.Pieces.{char_stands, open_char_stands}
 use Rattle.cx_lexer.proofs.piece.character.Goals as goal
 

@@ -1,5 +1,5 @@
 use Rattle.std.proofs.Common.{sym, ◌∙◌, ap}
-use Rattle.cx_lexer.specs.Number.{is_too_wide, runs_on}
+use Rattle.cx_lexer.specs.Number.{is_too_wide}
 use Rattle.cx_lexer.proofs.Pieces.{wide_stands, runs_stands, number_stands}
 use Rattle.cx_lexer.proofs.piece.number.Goals as goal
 

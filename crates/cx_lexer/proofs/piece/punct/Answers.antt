@@ -1,4 +1,4 @@
-use Rattle.std.proofs.Common.{sym, ◌∙◌, arith, get_or}
+use Rattle.std.proofs.Common.{arith, get_or}
 use Rattle.cx_lexer.proofs.Pieces.{punct_stands, none_stands, at_sign}
 use Rattle.cx_lexer.proofs.piece.punct.Goals as goal
 
