@@ -1,7 +1,7 @@
 mod rows
-mod Everywhere
-mod EverywhereMeaning
-mod Invariant
+pub mod Everywhere
+pub mod EverywhereMeaning
+pub mod Invariant
 mod BeginsTold
 mod InputRead
 mod Numbered

@@ -1,7 +1,7 @@
 -- What one evaluation of a contract assertion does: [basic.contract.eval] and [basic.contract.handler] of P2900R14, with this project's own rule that a chosen predicate is always evaluated.
 use Rattle.std.specs.Prelude.{Bool, true, false, not, ℕ, [], ◌∷◌, Option, Some, None, pos}
 use Rattle.std.specs.Ordering.{int_eq}
-use Rattle.cx_core.specs.Words.{Semantic, Ignore, Observe, Enforce, QuickEnforce, Holds, False, Threw, Mode, PredicateFalse, EvaluationException, Mixed, ContractTerminated, Violation}
+use Rattle.cx_core.specs.Words.{Semantic, Ignore, Observe, Enforce, QuickEnforce, Holds, False, Threw, DetectionMode, PredicateFalse, EvaluationException, Mixed, ContractTerminated, Violation}
 use Rattle.cx_core.specs.Tree.{Assertion, Check}
 use Rattle.cx_core.specs.Program.{Program}
 use Rattle.cx_core.specs.Store.{Value, number, address, null, violation}
@@ -9,7 +9,7 @@ use Rattle.cx_core.specs.Event.{verdict, handler, ended}
 use Rattle.cx_core.specs.Outcome.{Exception, Does, Nothing, either, ◌>>=◌, ◌>>◌, gives, skip, ends, undefined, current_frame, append}
 use Rattle.cx_core.specs.Leaving.{Calls, holding}
 
-abbrev pub violation_of : Assertion → Mode → Semantic → Violation
+abbrev pub violation_of : Assertion → DetectionMode → Semantic → Violation
 violation_of a mode semantic = record {
   kind = a.kind;
   semantic = semantic;

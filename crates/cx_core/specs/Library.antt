@@ -4,7 +4,7 @@ use Rattle.std.specs.Int.{int_rem_euclid}
 use Rattle.std.specs.List.{before_first}
 use Rattle.cx_core.specs.declared.number.Query.{Query}
 use Rattle.cx_core.specs.declared.number.Query.TheVariants as queries
-use Rattle.cx_core.specs.Words.{AssertionKind, Pre, Post, Assert, Mode, PredicateFalse, EvaluationException, Violation}
+use Rattle.cx_core.specs.Words.{AssertionKind, Pre, Post, Assert, DetectionMode, PredicateFalse, EvaluationException, Violation}
 use Rattle.cx_core.specs.Store.{Value, number, violation}
 use Rattle.cx_core.specs.Event.{out, input, input_end, semantic_number}
 use Rattle.cx_core.specs.Outcome.{State, Outcome, on, Does, Nothing, ◌>>=◌, ◌>>◌, gives, skip, some, append, spend, spend_all}
@@ -49,7 +49,7 @@ kind_number Pre = 1
 kind_number Post = 2
 kind_number Assert = 3
 
-abbrev pub mode_number : Mode → ℕ
+abbrev pub mode_number : DetectionMode → ℕ
 mode_number PredicateFalse = 1
 mode_number EvaluationException = 2
 

@@ -11,6 +11,6 @@ pub use Rattle.cx_code.specs.declared.image.AssertionKind.{AssertionKind}
 pub use Rattle.cx_code.specs.declared.image.AssertionKind.TheVariants.{Pre, Post, Assert}
 pub use Rattle.cx_code.specs.declared.violation.Semantic.{Semantic}
 pub use Rattle.cx_code.specs.declared.violation.Semantic.TheVariants.{Ignore, Observe, Enforce, QuickEnforce}
-pub use Rattle.cx_code.specs.declared.violation.Mode.{Mode}
+pub use Rattle.cx_code.specs.declared.violation.Mode.{Mode as DetectionMode}
 pub use Rattle.cx_code.specs.declared.violation.Mode.TheVariants.{PredicateFalse, EvaluationException}
 pub use Rattle.cx_code.specs.declared.violation.Violation.{Violation}

@@ -25,11 +25,9 @@ pub fn objects_stay_numbered()
 /// The bytes that a run reads are the first of its input.
 pub fn input_is_read_in_order()
     ensures { InputIsReadInOrder }
-{
-}
+{}
 
 /// With no budget the answer is that the run goes on, and there is no event.
 pub fn no_budget_says_nothing()
     ensures { NoBudgetSaysNothing }
-{
-}
+{}
