@@ -7,3 +7,4 @@ mod InputRead
 mod Numbered
 mod LargerBudget
 mod Budget
+mod RowsTaken
