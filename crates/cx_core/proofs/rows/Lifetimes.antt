@@ -2,14 +2,14 @@
 use Rattle.std.specs.Prelude.{refl, true, List, [], ◌∷◌, Some, None, pos, codes}
 use Rattle.cx_core.specs.declared.number.BinaryOperator.TheVariants.{Equal}
 use Rattle.cx_core.specs.Words.{Pre, Post, Assert, Definer, Observe, Enforce, Holds, Threw, EvaluationException, Returned}
-use Rattle.cx_core.specs.Tree.{class, variable, member, call, temporary, value, construct, no_more, by_reference, by_value, unnamed, Assertion, expression, variable_declaration, return_value, contract_assert, throw, try, none, catch}
+use Rattle.cx_core.specs.Tree.{class, variable, member, call, temporary, value, construct, no_more, by_reference, by_value, Assertion, expression, variable_declaration, return_value, contract_assert, throw, try, none, catch}
 use Rattle.cx_core.specs.Program.{Class, number_leaf, void, scalar_value}
 use Rattle.cx_core.specs.Event.{Event, out, begin, verdict, handler, destroyed}
 use Rattle.cx_core.specs.Event as event
 use Rattle.cx_core.specs.Check.{violation_of}
 use Rattle.cx_core.specs.Meaning.{running}
 use Rattle.cx_core.specs.Runs.{IsRun}
-use Rattle.cx_core.proofs.rows.Writing.{int, lit, as_is, read_int, read_variable, ints, int_arg, say, list, assertion, check, evaluation_of, pre, post, main_of, function_of, checked_function, constructor_of, destructor_of, constructs, destroys, int_field, class_of_one, empty_class, program_of}
+use Rattle.cx_core.proofs.rows.Writing.{caught_int, int, lit, as_is, read_int, read_variable, ints, int_arg, say, list, assertion, check, evaluation_of, pre, post, main_of, function_of, checked_function, constructor_of, destructor_of, constructs, destroys, int_field, class_of_one, empty_class, program_of}
 
 -- struct P { ~P() { putchar('p'); } }; struct T { int v; T(int n) : v(n) {} ~T() { putchar('t'); } };
 abbrev pub p_and_t : List Class
@@ -34,7 +34,7 @@ pub later_argument_throws :
     IsRun (program_of p_and_t (
     main_of (
     try (list (expression (call 5 (by_value (class 0) (construct 1 no_more) (by_value int (value (as_is (call 6 no_more))) no_more))) ∷ []))
-    (catch int unnamed (list (return_value (lit 3) ∷ [])) none)
+    (catch int caught_int (list (return_value (lit 3) ∷ [])) none)
     ∷ return_value (lit 0) ∷ [])
     ∷ constructs 0 ∷ destructor_of 0 (say 112 ∷ [])
     ∷ constructs 1 ∷ destroys 1
@@ -49,7 +49,7 @@ pub half_made_object_is_not_destroyed :
     IsRun (program_of (empty_class (codes "P") 1 9 2 ∷ empty_class (codes "E") 3 9 4 ∷ []) (
     main_of (
     try (list (variable_declaration 0 (class 0) (construct 1 no_more) ∷ variable_declaration 1 (class 1) (construct 3 no_more) ∷ []))
-    (catch int unnamed (list (return_value (lit 3) ∷ [])) none)
+    (catch int caught_int (list (return_value (lit 3) ∷ [])) none)
     ∷ return_value (lit 0) ∷ [])
     ∷ constructs 0 ∷ destructor_of 0 (say 112 ∷ [])
     ∷ constructor_of [] (throw int (value (lit 7)) ∷ []) ∷ destructor_of 1 (say 101 ∷ [])
