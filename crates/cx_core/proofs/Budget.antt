@@ -5,7 +5,7 @@ use Rattle.cx_core.specs.Program.{Program}
 use Rattle.cx_core.specs.Store.{Value, number, address, null, violation}
 use Rattle.cx_core.specs.Event.{Evaluation, Event, ended, going, waiting, not_a_run}
 use Rattle.cx_core.specs.Outcome.{Outcome, on, thrown, over}
-use Rattle.cx_core.specs.Meaning.{Meaning, mean, mean_within, implicit_within, running, meaning_of, calls_within, main_call, start, depth_limit}
+use Rattle.cx_core.specs.Meaning.{Meaning, mean, mean_within, running, meaning_of, calls_within, main_call, start, depth_limit}
 use Rattle.cx_core.specs.Laws.{LargerBudgetChangesNoEnding, LargerBudgetOnlyAddsEvents, NoBudgetSaysNothing}
 use Rattle.cx_core.proofs.EverywhereMeaning.{calls_within_of}
 use Rattle.cx_core.proofs.LargerBudget.{Extends, Grows, Grown, Lasts, everything_lasts}

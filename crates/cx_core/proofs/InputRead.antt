@@ -79,5 +79,5 @@ pub input_is_read_in_order : InputIsReadInOrder
 unfolding mean mean_within
 input_is_read_in_order program begins bytes budget =
     beginning_at_the_end bytes (calls_within program depth_limit (main_call program) (start program begins bytes budget))
-      (calls_within_of (Keeps (IsInput bytes) (IsBeginning bytes)) (invariant_is_closed _ _ (is_input bytes)) program depth_limit (main_call program)
-        (start program begins bytes budget) refl)
+    (calls_within_of (Keeps (IsInput bytes) (IsBeginning bytes)) (invariant_is_closed _ _ (is_input bytes)) program depth_limit (main_call program)
+    (start program begins bytes budget) refl)

@@ -1,9 +1,10 @@
 mod rows
-mod Everywhere
-mod EverywhereMeaning
-mod Invariant
+pub mod Everywhere
+pub mod EverywhereMeaning
+pub mod Invariant
 mod BeginsTold
 mod InputRead
 mod Numbered
 mod LargerBudget
 mod Budget
+mod RowsTaken

@@ -16,3 +16,4 @@ pub mod Runs
 pub mod Numbered
 pub mod Linked
 pub mod Laws
+pub mod Row

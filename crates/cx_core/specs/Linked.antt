@@ -48,10 +48,10 @@ number_in [] name = 0
 number_in (n ∷ names) name = if bytes_eq n name then 0 else suc (number_in names name)
 
 abbrev pub function_names : List Planned → List (List ℕ)
-function_names units = distinct_after [] (flat_map (λ p. map (λ f. f.name) p.unit.functions.items) units)
+function_names units = distinct_after [] (flat_map (λ p. map (λ f. f.name) p.unit.functions) units)
 
 abbrev pub class_names : List Planned → List (List ℕ)
-class_names units = distinct_after [] (flat_map (λ p. map (λ c. c.name) p.unit.classes.items) units)
+class_names units = distinct_after [] (flat_map (λ p. map (λ c. c.name) p.unit.classes) units)
 
 abbrev pub value_where_defined : List ℕ → Option Constant → List (List ℕ × tree.Constant)
 value_where_defined name None = []
@@ -59,7 +59,7 @@ value_where_defined name (Some c) = (name, constant c) ∷ []
 
 -- by unit, and then by place of definition
 abbrev pub defined_globals : List Planned → List (List ℕ × tree.Constant)
-defined_globals units = flat_map (λ p. flat_map (λ g. value_where_defined g.name g.value) p.unit.globals.items) units
+defined_globals units = flat_map (λ p. flat_map (λ g. value_where_defined g.name g.value) p.unit.globals) units
 
 abbrev pub name_or_none : Option (List ℕ) → List ℕ
 name_or_none None = []
@@ -115,26 +115,26 @@ asserted (c ∷ checks) predicate = c
 module _ (units : List Planned) where
   abbrev pub numbers_of : Planned → Numbers
   numbers_of p = record {
-    function = λ i. number_in (function_names units) (nth_name (map (λ f. f.name) p.unit.functions.items) i);
-    class_number = λ i. number_in (class_names units) (nth_name (map (λ c. c.name) p.unit.classes.items) i);
-    global = λ i. number_in (map (λ g. g.0) (defined_globals units)) (nth_name (map (λ g. g.name) p.unit.globals.items) i);
-    assertion = λ a predicate. asserted (check_of true p (slice_get p.unit.assertions.items a) predicate) predicate;
+    function = λ i. number_in (function_names units) (nth_name (map (λ f. f.name) p.unit.functions) i);
+    class_number = λ i. number_in (class_names units) (nth_name (map (λ c. c.name) p.unit.classes) i);
+    global = λ i. number_in (map (λ g. g.0) (defined_globals units)) (nth_name (map (λ g. g.name) p.unit.globals) i);
+    assertion = λ a predicate. asserted (check_of true p (slice_get p.unit.assertions a) predicate) predicate;
   }
 
   abbrev pub specifier_checks : (takes_part : Bool) → Planned → List Specifier → List tree.Check
   specifier_checks takes_part p specifiers =
-      flat_map (λ s. check_of takes_part p (slice_get p.unit.assertions.items s.assertion) (operand_of (numbers_of p) s.predicate)) specifiers
+      flat_map (λ s. check_of takes_part p (slice_get p.unit.assertions s.assertion) (operand_of (numbers_of p) s.predicate)) specifiers
 
   abbrev pub definer_checks : Planned → unit_function.Function → Checks
   definer_checks p f = record {
-    preconditions = specifier_checks true p f.preconditions.items;
-    postconditions = specifier_checks true p f.postconditions.items;
+    preconditions = specifier_checks true p f.preconditions;
+    postconditions = specifier_checks true p f.postconditions;
   }
 
   abbrev pub caller_checks : Planned → unit_function.Function → Checks
   caller_checks p f = record {
-    preconditions = specifier_checks (checks_preconditions p.choice.calls) p f.preconditions.items;
-    postconditions = specifier_checks (checks_postconditions p.choice.calls) p f.postconditions.items;
+    preconditions = specifier_checks (checks_preconditions p.choice.calls) p f.preconditions;
+    postconditions = specifier_checks (checks_postconditions p.choice.calls) p f.postconditions;
   }
 
   -- ---- functions
@@ -188,7 +188,7 @@ module _ (units : List Planned) where
   abbrev pub definition_from : List ℕ → ℕ → List Planned → program.Function
   definition_from name definer [] = no_function
   definition_from name definer (p ∷ later) =
-      definition_among name definer p p.unit.functions.items (definition_from name (suc definer) later)
+      definition_among name definer p p.unit.functions (definition_from name (suc definer) later)
 
   abbrev pub caller_among : List ℕ → Planned → List unit_function.Function → Checks
   caller_among name p [] = record { preconditions = []; postconditions = [] }
@@ -208,8 +208,8 @@ module _ (units : List Planned) where
   abbrev pub class_of : List ℕ → Planned → ClassDefinition → program.Class
   class_of name p c = record {
     name = name;
-    fields = map (λ f. record { leaf = f.leaf; type = object_type (numbers_of p) f.of }) c.fields.items;
-    leaves = map leaf_kind c.leaves.items;
+    fields = map (λ f. record { leaf = f.leaf; type = object_type (numbers_of p) f.of }) c.fields;
+    leaves = map leaf_kind c.leaves;
     objects = c.objects;
     default_constructor = function_or_none p c.default_constructor;
     copy_constructor = (numbers_of p).function c.copy_constructor;
@@ -240,7 +240,7 @@ module _ (units : List Planned) where
   -- the definition in the first unit that has one; all are the same
   abbrev pub class_from : List ℕ → List Planned → program.Class
   class_from name [] = no_class name
-  class_from name (p ∷ later) = class_among name p p.unit.classes.items (class_from name later)
+  class_from name (p ∷ later) = class_among name p p.unit.classes (class_from name later)
 
   -- ---- the program
 
@@ -250,7 +250,7 @@ module _ (units : List Planned) where
 
   abbrev pub is_defined : List ℕ → Bool
   is_defined name = is_among
-      (flat_map (λ p. flat_map (λ f. if has_body f.body then (f.name ∷ []) else []) p.unit.functions.items) units) name
+      (flat_map (λ p. flat_map (λ f. if has_body f.body then (f.name ∷ []) else []) p.unit.functions) units) name
 
   abbrev pub handler_name : List ℕ
   handler_name = codes "handle_contract_violation"
@@ -260,7 +260,7 @@ module _ (units : List Planned) where
     functions = map (λ name. definition_from name 0 units) (function_names units);
     classes = map (λ name. class_from name units) (class_names units);
     globals = map (λ g. g.1) (defined_globals units);
-    callers = map (λ p. map (λ name. caller_among name p p.unit.functions.items) (function_names units)) units;
+    callers = map (λ p. map (λ name. caller_among name p p.unit.functions) (function_names units)) units;
     main = number_in (function_names units) (codes "main");
     handler = if is_defined handler_name then Some (number_in (function_names units) handler_name) else None;
   }

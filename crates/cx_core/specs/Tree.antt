@@ -89,8 +89,9 @@ pub record Check : Type 0 where
   pub times : ℕ
   pub predicate : Operand
 
--- the parameter of a handler
+-- the parameter of a handler; one that isn't a reference is an object, also without a name
 pub data CatchParameter : Type 0 where
+  -- a reference without a name
   unnamed : CatchParameter
   reference : (slot : ℕ) → CatchParameter
   object : (slot : ℕ) → Init → CatchParameter

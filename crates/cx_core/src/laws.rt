@@ -1,4 +1,5 @@
 //! Laws of the meaning. Each function does nothing: its contract is the law.
+ghost use Rattle.cx_core.specs.Row.{TakenAreTheRows};
 ghost use Rattle.cx_core.specs.Laws.{BeginsAreTheFirstTold, InputIsReadInOrder, NoBudgetSaysNothing, LargerBudgetChangesNoEnding, LargerBudgetOnlyAddsEvents, ObjectsStayNumbered};
 
 /// The evaluations that a run begins are the first of those that it is told.
@@ -25,11 +26,15 @@ pub fn objects_stay_numbered()
 /// The bytes that a run reads are the first of its input.
 pub fn input_is_read_in_order()
     ensures { InputIsReadInOrder }
-{
-}
+{}
 
 /// With no budget the answer is that the run goes on, and there is no event.
 pub fn no_budget_says_nothing()
     ensures { NoBudgetSaysNothing }
-{
-}
+{}
+
+/// Of evaluations that are owed once each by name, the meaning takes a list as a row exactly where each stands as often
+/// as it is owed, none stands before an earlier one that is to stand and has not stood yet, and no other stands.
+pub fn taken_are_the_rows()
+    ensures { TakenAreTheRows }
+{}

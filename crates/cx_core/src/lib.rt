@@ -13,6 +13,6 @@ pub use expression::{Argument, Constant, Expression, Initializer, Operand};
 pub use number::{BinaryOperator, IntegerType, Query, UnaryOperator};
 pub use statement::{CatchParameter, Handler, Statement};
 pub use unit::{
-    Assertion, Body, Class, ClassDefinition, CoreUnit, Field, FieldInitializer, Function, Global,
-    LeafKind, ResultKind, Specifier,
+    Assertion, Body, CallPlace, CallSite, Class, ClassDefinition, CoreUnit, Field,
+    FieldInitializer, Function, Global, LeafKind, ResultKind, Specifier,
 };

@@ -40,9 +40,10 @@ pub struct Handler {
     pub body: Vec<Statement>,
 }
 
-/// What a handler names.
+/// The parameter of a handler, in its slot. One that isn't a reference is an object, also without a name.
 #[derive(Drop)]
 pub enum CatchParameter {
+    /// A reference without a name, or `...`.
     Unnamed,
     /// A reference to the exception object.
     Reference(u32),

@@ -1,23 +1,46 @@
 use crate::{Constant, Initializer, Operand, Statement};
 use cx_code::AssertionKind;
-use cx_outside::Text;
+use cx_outside::{Items, Text};
 use cx_types::ValueType;
 
 /// A unit whose names, types and contracts are checked. Its parts go by their index in its tables.
 #[derive(Drop)]
 pub struct CoreUnit {
     pub name: Text,
-    pub classes: Vec<Class>,
-    pub globals: Vec<Global>,
+    pub classes: Items<Class>,
+    pub globals: Items<Global>,
     /// Each function that the unit declares, names or needs, with its first declaration in the unit.
-    pub functions: Vec<Function>,
-    pub assertions: Vec<Assertion>,
+    pub functions: Items<Function>,
+    pub assertions: Items<Assertion>,
+    /// In order of place.
+    pub calls: Items<CallSite>,
+    pub tokens: u32,
+    /// The bytes of all files that were taken for the unit.
+    pub bytes: u32,
+}
+
+/// A call that stands in the unit.
+#[derive(Clone, Copy, Debug, PartialEq, Eq)]
+pub struct CallSite {
+    /// The function that is called.
+    pub function: u32,
+    pub within: CallPlace,
+}
+
+/// Where a call stands, by the function.
+#[derive(Clone, Copy, Debug, PartialEq, Eq)]
+pub enum CallPlace {
+    Definition(u32),
+    /// In a predicate of its first declaration.
+    Predicate(u32),
 }
 
 /// A class [class]; one that is only declared has no definition.
 #[derive(Drop)]
 pub struct Class {
     pub name: Text,
+    /// The tokens of its definition with one space between two, which linking compares.
+    pub text: Text,
     pub definition: Option<ClassDefinition>,
 }
 
@@ -25,8 +48,8 @@ pub struct Class {
 #[derive(Drop)]
 pub struct ClassDefinition {
     /// In order of declaration.
-    pub fields: Vec<Field>,
-    pub leaves: Vec<LeafKind>,
+    pub fields: Items<Field>,
+    pub leaves: Items<LeafKind>,
     /// The class objects in an object of the class, itself included.
     pub objects: u32,
     /// The constructor without parameters, declared or implicit, if there is one.
@@ -55,6 +78,10 @@ pub enum LeafKind {
 #[derive(Drop)]
 pub struct Global {
     pub name: Text,
+    /// Its type, which linking compares.
+    pub type_text: Text,
+    /// An expression of the unit names it.
+    pub is_named: bool,
     pub value: Option<Constant>,
 }
 
@@ -63,13 +90,26 @@ pub struct Global {
 pub struct Function {
     /// As assertions name it: `f`, `T::f`, `T::f.const`, `T::T`, `T::T.copy` or `T::~T`.
     pub name: Text,
+    /// Its signature, and the specifiers of its first declaration with a mark for each parameter and result name:
+    /// linking compares them.
+    pub signature: Text,
+    pub specifiers: Text,
+    pub is_inline: bool,
+    /// The tokens of an inline definition, which linking compares.
+    pub inline_text: Text,
+    /// Code of the unit calls or names it.
+    pub is_needed: bool,
     pub noexcept: bool,
+    pub named_parameters: u32,
     pub result: ResultKind,
     /// The function contract specifiers of its first declaration in this unit.
-    pub preconditions: Vec<Specifier>,
-    pub postconditions: Vec<Specifier>,
+    pub preconditions: Items<Specifier>,
+    pub postconditions: Items<Specifier>,
     /// Its definition in this unit, if there is one.
     pub body: Option<Body>,
+    /// The tokens of the first declaration without its body, and of the definition.
+    pub declaration_tokens: u32,
+    pub definition_tokens: u32,
 }
 
 /// What a call gives.

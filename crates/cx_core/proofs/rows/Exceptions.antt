@@ -3,13 +3,13 @@ use Rattle.std.specs.Prelude.{refl, true, [], ◌∷◌, Some, None, pos, codes}
 use Rattle.cx_core.specs.declared.number.IntegerType.TheVariants as types
 use Rattle.cx_core.specs.declared.number.BinaryOperator.TheVariants.{Add, Equal}
 use Rattle.cx_core.specs.Words.{Returned, Terminated}
-use Rattle.cx_core.specs.Tree.{class, number, literal, variable, exception_object, member, call, putchar, operand, value, construct, no_more, by_reference, by_value, unnamed, reference, object, empty, expression, variable_declaration, if_else, return_value, throw, rethrow, try, none, catch, catch_all}
+use Rattle.cx_core.specs.Tree.{class, number, literal, variable, exception_object, member, call, putchar, operand, value, construct, no_more, by_reference, by_value, reference, object, empty, expression, variable_declaration, if_else, return_value, throw, rethrow, try, none, catch, catch_all}
 use Rattle.cx_core.specs.Program.{Program, Class, number_leaf, void}
 use Rattle.cx_core.specs.Event.{Event, out, destroyed}
 use Rattle.cx_core.specs.Event as event
 use Rattle.cx_core.specs.Meaning.{running}
 use Rattle.cx_core.specs.Runs.{IsRun}
-use Rattle.cx_core.proofs.rows.Writing.{int, char, lit, as_is, read_int, read_char, read_variable, ints, int_arg, own, say, list, main_of, function_of, constructor_of, destructor_of, constructs, destroys, int_field, class_of_one, empty_class, program_of}
+use Rattle.cx_core.proofs.rows.Writing.{caught_int, int, char, lit, as_is, read_int, read_char, read_variable, ints, int_arg, own, say, list, main_of, function_of, constructor_of, destructor_of, constructs, destroys, int_field, class_of_one, empty_class, program_of}
 
 -- struct E { int c; E(int n) : c(n) {} };
 -- struct M { char n; M(char k) : n(k) { if (k == 'c') throw E(9); } ~M() { putchar(n); } };
@@ -58,7 +58,7 @@ pub copy_into_a_catch_parameter_has_an_edge :
     IsRun (program_of (empty_class (codes "E") 1 2 3 ∷ []) (
     main_of (
     try (list (try (list (throw (class 0) (construct 1 no_more) ∷ [])) (catch (class 0) (object 0 (construct 2 (by_reference exception_object no_more))) (list []) none) ∷ []))
-    (catch int unnamed (list (return_value (lit 3) ∷ [])) none)
+    (catch int caught_int (list (return_value (lit 3) ∷ [])) none)
     ∷ return_value (lit 0) ∷ [])
     ∷ constructor_of [] []
     ∷ constructor_of [] (throw int (value (lit 1)) ∷ [])
@@ -97,7 +97,7 @@ destructor_has_an_edge = refl
 pub rethrown_exception_is_caught_again :
     IsRun (program_of [] (
     main_of (
-    try (list (try (list (throw int (value (lit 1)) ∷ [])) (catch int unnamed (list (rethrow ∷ [])) none) ∷ []))
+    try (list (try (list (throw int (value (lit 1)) ∷ [])) (catch int caught_int (list (rethrow ∷ [])) none) ∷ []))
     (catch int (object 0 (value (read_int exception_object))) (list (return_value (as_is (ints Add (read_variable 0) (lit 1))) ∷ [])) none)
     ∷ [])
     ∷ [])) [] (event.throw (codes "int") ∷ event.catch (codes "int") ∷ event.throw (codes "int") ∷ event.catch (codes "int") ∷ []) (Returned (pos 2)) 99
@@ -108,7 +108,7 @@ rethrown_exception_is_caught_again = refl
 pub handlers_match_the_very_type :
     IsRun (program_of [] (
     main_of (
-    try (list (throw char (value (lit 97)) ∷ [])) (catch int unnamed (list (return_value (lit 1) ∷ [])) (catch_all (list (return_value (lit 2) ∷ [])) none))
+    try (list (throw char (value (lit 97)) ∷ [])) (catch int caught_int (list (return_value (lit 1) ∷ [])) (catch_all (list (return_value (lit 2) ∷ [])) none))
     ∷ [])
     ∷ [])) [] (event.throw (codes "char") ∷ event.catch (codes "char") ∷ []) (Returned (pos 2)) 99
 unfolding running

@@ -3,14 +3,14 @@ use Rattle.std.specs.Prelude.{refl, ℕ, true, List, [], ◌∷◌, ◌++◌, So
 use Rattle.cx_core.specs.declared.number.BinaryOperator.TheVariants.{Add, Greater}
 use Rattle.cx_core.specs.declared.number.Query.TheVariants as queries
 use Rattle.cx_core.specs.Words.{Pre, Post, Assert, Definer, Caller, Observe, Enforce, QuickEnforce, Semantic, False, Threw, PredicateFalse, EvaluationException, Returned, Terminated, ContractTerminated}
-use Rattle.cx_core.specs.Tree.{class, variable, exception_object, member, call, putchar, query, value, construct, result_of, no_more, by_reference, by_value, unnamed, object, Assertion, Stmt, expression, variable_declaration, contract_assert, return_value, return_object, throw, rethrow, try, Handlers, none, catch}
+use Rattle.cx_core.specs.Tree.{class, variable, exception_object, member, call, putchar, query, value, construct, result_of, no_more, by_reference, by_value, object, Assertion, Stmt, expression, variable_declaration, contract_assert, return_value, return_object, throw, rethrow, try, Handlers, none, catch}
 use Rattle.cx_core.specs.Program.{Program, Function, void, scalar_value, class_object}
 use Rattle.cx_core.specs.Event.{Event, out, begin, verdict, handler, destroyed}
 use Rattle.cx_core.specs.Event as event
 use Rattle.cx_core.specs.Check.{violation_of}
 use Rattle.cx_core.specs.Meaning.{running}
 use Rattle.cx_core.specs.Runs.{IsRun}
-use Rattle.cx_core.proofs.rows.Writing.{int, lit, as_is, read_int, read_variable, ints, int_arg, say, list, assertion, check, evaluation_of, pre, post, main_of, function_of, checked_function, handler_of, constructor_of, destructor_of, constructs, copies, int_field, class_of_one, empty_class, program_of, calling}
+use Rattle.cx_core.proofs.rows.Writing.{caught_int, int, lit, as_is, read_int, read_variable, ints, int_arg, say, list, assertion, check, evaluation_of, pre, post, main_of, function_of, checked_function, handler_of, constructor_of, destructor_of, constructs, copies, int_field, class_of_one, empty_class, program_of, calling}
 
 -- struct P { ~P() { putchar('p'); } }; functions 1 to 3 are its constructor, copy and destructor
 abbrev pub with_class_p : List Stmt → List Function → Program
@@ -35,7 +35,7 @@ caller_finds_it_false =
 -- void f(P p, int x) noexcept pre(x > 0) {} and a handler that does throw 1;
 -- int main() { try { P q; f(q, 0); } catch (int) { putchar('c'); } return 0; }, where the Caller checks
 pub handler_throws_inside_the_edge :
-    IsRun (record (with_class_p (calls_f (catch int unnamed (list (say 99 ∷ [])) none) ∷ return_value (lit 0) ∷ []) (
+    IsRun (record (with_class_p (calls_f (catch int caught_int (list (say 99 ∷ [])) none) ∷ return_value (lit 0) ∷ []) (
     record (function_of void []) { noexcept = true } ∷ handler_of (throws_int 1 ∷ []) ∷ []))
     { handler = Some 5; callers = calling 4 (pre (check second_is_positive Enforce 1 (as_is (ints Greater (read_variable 1) (lit 0))) ∷ [])) })
     [] (caller_finds_it_false ++ event.throw (codes "int") ∷ []) Terminated 99

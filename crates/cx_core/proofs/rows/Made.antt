@@ -1,11 +1,11 @@
 -- A chain of functions over one or two units, each with a precondition and a postcondition, repetitions and checks of both parties.
-use Rattle.std.specs.Prelude.{◌≡◌, refl, ℕ, zero, suc, ◌+◌, ◌-◌, ◌*◌, ◌/◌, ◌%◌, Bool, true, false, if◌then◌else◌, nat_le, nat_eq, List, [], ◌∷◌, ◌++◌, map, length, Option, Some, None, pos, codes, decimal}
+use Rattle.std.specs.Prelude.{◌≡◌, refl, ℕ, zero, suc, ◌+◌, ◌-◌, ◌*◌, ◌/◌, Bool, true, false, if◌then◌else◌, List, [], ◌∷◌, ◌++◌, map, length, pos, codes}
 use Rattle.cx_core.specs.declared.number.BinaryOperator.TheVariants.{Add, GreaterEqual}
-use Rattle.cx_core.specs.Words.{AssertionKind, Pre, Post, Party, Definer, Caller, Semantic, Observe, Enforce, Holds, Ending, Returned}
-use Rattle.cx_core.specs.Tree.{Expr, variable, result_name, call, Operand, value, no_more, by_value, Assertion, Check, return_value}
+use Rattle.cx_core.specs.Words.{Pre, Post, Party, Definer, Caller, Semantic, Observe, Enforce, Holds, Returned}
+use Rattle.cx_core.specs.Tree.{result_name, call, Operand, value, no_more, by_value, Assertion, return_value}
 use Rattle.cx_core.specs.Program.{Checks, Function, Program, scalar_object}
 use Rattle.cx_core.specs.Event.{Event, begin, verdict, begins_of}
-use Rattle.cx_core.specs.Meaning.{mean, running}
+use Rattle.cx_core.specs.Meaning.{running}
 use Rattle.cx_core.specs.Runs.{IsRun}
 use Rattle.cx_core.proofs.rows.Writing.{int, lit, as_is, read_int, read_variable, ints, int_arg, assertion, check, evaluation_of, no_checks, main_of, checked_function, program_of}
 
@@ -59,7 +59,7 @@ caller_of unit k = checks_of k (plan_of unit) (plan_of unit).calls_pre (plan_of 
 -- `main` is in the last unit and calls the last function with 0
 pub made : (units : ℕ) → Program
 made n = record (program_of [] (record (main_of (return_value (as_is (call (16 * n) (int_arg 0 no_more))) ∷ [])) { definer = n - 1 } ∷ map function_at (numbers_to (16 * n))))
-  { callers = map (λ u. no_checks ∷ map (caller_of (u - 1)) (numbers_to (16 * n))) (numbers_to n) }
+    { callers = map (λ u. no_checks ∷ map (caller_of (u - 1)) (numbers_to (16 * n))) (numbers_to n) }
 
 times_of : ℕ → List Event → List Event
 times_of zero events = []

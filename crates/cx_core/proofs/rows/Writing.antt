@@ -4,7 +4,7 @@ use Rattle.cx_types.specs.declared.value_type.Scalar.TheVariants as scalars
 use Rattle.cx_core.specs.declared.number.IntegerType.TheVariants as types
 use Rattle.cx_core.specs.declared.number.BinaryOperator.{BinaryOperator}
 use Rattle.cx_core.specs.Words.{AssertionKind, Party, Semantic}
-use Rattle.cx_core.specs.Tree.{ObjectType, scalar, pointer, number, Expr, literal, variable, this, binary, assign, indirection, member, putchar, Operand, operand, value, Args, by_value, Assertion, Check, Stmt, expression, variable_declaration, Stmts, done, next}
+use Rattle.cx_core.specs.Tree.{ObjectType, scalar, pointer, number, Expr, literal, variable, this, binary, assign, indirection, member, putchar, Operand, operand, value, Args, by_value, Assertion, Check, Stmt, expression, variable_declaration, Stmts, done, next, CatchParameter, object, exception_object}
 use Rattle.cx_core.specs.Program.{Checks, FieldInit, Body, function, violation_handler, constructor, destructor, implicit_constructor, implicit_copy_constructor, implicit_destructor, ResultKind, void, exit_status, Function, number_leaf, empty_leaf, Class, Program}
 use Rattle.cx_core.specs.Event.{Evaluation}
 
@@ -63,6 +63,10 @@ set_int slot a = expression (assign (variable slot) a)
 
 abbrev pub say : ℕ → Stmt
 say c = expression (putchar (lit c))
+
+-- the parameter of `catch (int)`, in a slot of its own
+abbrev pub caught_int : CatchParameter
+caught_int = object 9 (value (read_int exception_object))
 
 -- ---- contracts
 
