@@ -6,7 +6,7 @@ use Rattle.cx_syntax.specs.declared.mark.Word.{Word}
 use Rattle.cx_syntax.specs.declared.mark.Word.TheVariants as W
 use Rattle.cx_syntax.specs.declared.mark.Mark.{Mark}
 use Rattle.cx_syntax.specs.declared.mark.Mark.TheVariants as M
-use Rattle.cx_syntax.specs.Tree.{Args, Base, Block, Catching, Constant, Expr, GlobalInit, Handler, Handlers, Init, InitRow, Inits, Item, Local, Making, Member, MemberInit, Members, Param, ParamRow, Params, Several, Spec, Specs, Stars, Stmt, Stmts, Suffix, Tail, TypeTree, UnitTree, access, after, after_named, also, any_catch, args, asserts, assign, bare, before, binary, block, branch, branches, breaks, call, choose, class_defined, class_named, compound, constructor, continues, declare, declared, defined, destructor, empty, equals, evaluate, external, field, for_loop, function, global, handler, inits, leaf, library, library_base, local, made, member, member_init, method, more_handlers, more_inits, more_items, more_members, more_params, more_specs, more_stmts, negative, no_args, no_inits, no_items, no_members, no_params, no_specs, no_stars, no_stmts, one, one_handler, one_init, one_param, outer_constructor, outer_destructor, outer_method, param, params, paren, parens, plain, returns, standard, star, static_cast, stepped, suffix, temporary, throws, tries, type_tree, typed_catch, unary, unmade, while_loop, with_value, without, word_base, word_cast}
+use Rattle.cx_syntax.specs.Tree.{Args, Base, Block, Catching, Constant, Expr, GlobalInit, Handler, Handlers, Init, InitRow, Inits, Item, Local, Making, Member, MemberInit, Members, Param, ParamRow, Params, Several, Spec, Specs, Stars, Stmt, Stmts, Suffix, Tail, TypeTree, UnitTree, access, after, after_named, also, any_catch, args, asserts, assign, before, binary, block, branch, branches, breaks, call, choose, class_defined, class_named, compound, constructor, continues, declare, declared, defined, destructor, empty, equals, evaluate, external, field, for_loop, function, global, handler, inits, leaf, library, library_base, local, made, member, member_init, method, more_handlers, more_inits, more_items, more_members, more_params, more_specs, more_stmts, negative, no_args, no_init, no_inits, no_items, no_members, no_params, no_specs, no_stars, no_stmts, one, one_handler, one_init, one_param, outer_constructor, outer_destructor, outer_method, param, params, paren, parens, plain, returns, standard, star, static_cast, stepped, suffix, temporary, throws, tries, type_tree, typed_catch, unary, unmade, while_loop, with_value, without, word_base, word_cast}
 
 -- a mark that is an expression by itself
 abbrev pub is_leaf : Mark → Bool
@@ -233,7 +233,7 @@ abbrev pub ShapedFree : Expr → Type 0
 ShapedFree e = (begins_type e ≡ false) × Shaped e
 
 abbrev pub ShapedInit : Init → Type 0
-ShapedInit bare = Unit {0}
+ShapedInit no_init = Unit {0}
 ShapedInit (equals i e) = Shaped e
 ShapedInit (parens i s j) = ShapedSeveral s
 

@@ -6,7 +6,7 @@ use Rattle.cx_syntax.specs.declared.mark.Word.{Word}
 use Rattle.cx_syntax.specs.declared.mark.Word.TheVariants as W
 use Rattle.cx_syntax.specs.declared.mark.Mark.{Mark}
 use Rattle.cx_syntax.specs.declared.mark.Mark.TheVariants as M
-use Rattle.cx_syntax.specs.Tree.{Args, Base, Block, Catching, Constant, Expr, GlobalInit, Handler, Handlers, Init, InitRow, Inits, Item, Local, Making, Member, MemberInit, Members, OptionalName, Param, ParamRow, Params, Several, Spec, Specs, Stars, Stmt, Stmts, Suffix, Tail, TypeTree, UnitTree, access, after, after_named, also, any_catch, args, asserts, assign, bare, before, binary, block, branch, branches, breaks, call, choose, class_base, class_defined, class_named, compound, constructor, continues, declare, declared, defined, destructor, empty, equals, evaluate, external, field, for_loop, function, global, handler, inits, leaf, library, library_base, local, long_long, made, member, member_init, method, more_handlers, more_inits, more_items, more_members, more_params, more_specs, more_stmts, named, negative, no_args, no_inits, no_items, no_members, no_params, no_specs, no_stars, no_stmts, one, one_handler, one_init, one_param, outer_constructor, outer_destructor, outer_method, param, params, paren, parens, plain, returns, standard, star, static_cast, stepped, suffix, temporary, throws, tries, type_tree, typed_catch, unary, unmade, unnamed, unsigned_int, unsigned_long_long, while_loop, with_value, without, word_base, word_cast}
+use Rattle.cx_syntax.specs.Tree.{Args, Base, Block, Catching, Constant, Expr, GlobalInit, Handler, Handlers, Init, InitRow, Inits, Item, Local, Making, Member, MemberInit, Members, OptionalName, Param, ParamRow, Params, Several, Spec, Specs, Stars, Stmt, Stmts, Suffix, Tail, TypeTree, UnitTree, access, after, after_named, also, any_catch, args, asserts, assign, before, binary, block, branch, branches, breaks, call, choose, class_base, class_defined, class_named, compound, constructor, continues, declare, declared, defined, destructor, empty, equals, evaluate, external, field, for_loop, function, global, handler, inits, leaf, library, library_base, local, long_long, made, member, member_init, method, more_handlers, more_inits, more_items, more_members, more_params, more_specs, more_stmts, named, negative, no_args, no_init, no_inits, no_items, no_members, no_params, no_specs, no_stars, no_stmts, one, one_handler, one_init, one_param, outer_constructor, outer_destructor, outer_method, param, params, paren, parens, plain, returns, standard, star, static_cast, stepped, suffix, temporary, throws, tries, type_tree, typed_catch, unary, unmade, unnamed, unsigned_int, unsigned_long_long, while_loop, with_value, without, word_base, word_cast}
 
 abbrev pub Marks : Type 0
 Marks = List Mark
@@ -93,7 +93,7 @@ if_expr None w = w
 if_expr (Some e) w = spell_expr e w
 
 abbrev pub spell_init : Init → Spots → Spots
-spell_init bare w = w
+spell_init no_init w = w
 spell_init (equals i e) w = sign P.Assign i (spell_expr e w)
 spell_init (parens i s j) w = sign P.OpenParen i (spell_several s (sign P.CloseParen j w))
 

@@ -50,7 +50,7 @@ mutual
     also : Several → (comma : ℕ) → Expr → Several
 
 pub data Init : Type 0 where
-  bare : Init
+  no_init : Init
   equals : (at : ℕ) → Expr → Init
   parens : (at : ℕ) → Several → (close : ℕ) → Init
 
