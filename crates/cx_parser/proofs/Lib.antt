@@ -6,3 +6,6 @@ pub mod Types
 pub mod Expressions
 pub mod Entries
 pub mod Statements
+pub mod Functions
+pub mod Members
+pub mod Items
