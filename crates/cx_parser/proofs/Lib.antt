@@ -9,3 +9,10 @@ pub mod Statements
 pub mod Functions
 pub mod Members
 pub mod Items
+pub mod Typed
+pub mod Kept
+pub mod KeepsExpressions
+pub mod KeepsStatements
+pub mod KeepsFunctions
+pub mod KeepsItems
+pub mod Keeps
