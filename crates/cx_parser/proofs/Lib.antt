@@ -16,3 +16,7 @@ pub mod KeepsStatements
 pub mod KeepsFunctions
 pub mod KeepsItems
 pub mod Keeps
+pub mod Complete
+pub mod Ends
+pub mod Waits
+pub mod Reached
