@@ -1,1 +1,5 @@
--- The syntax of the language needs no definition of its own so far.
+pub mod Tree
+pub mod Same
+pub mod Spell
+pub mod Shaped
+pub mod Place

@@ -1,0 +1,6 @@
+//! The parser of a unit: a machine with a stack that goes by the table of the grammar.
+#![tactic(auto)]
+
+mod recognizer;
+
+pub use recognizer::{ParseFault, recognize};
