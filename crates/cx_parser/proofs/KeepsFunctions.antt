@@ -66,8 +66,7 @@ module _ (k : List Symbol) where
   pub k_post_name : (o : Option Mark) (vs : Values) (c : Fn) → Typed (Read PostName ∷ k) o vs c → Kept (move PostName o) k o vs c
   k_post_name o (mark_val (M.Name n) a ∷ mark_val x j ∷ mark_val m i ∷ us) c h =
       kept_sign P.Colon (Read Cond ∷ s P.CloseParen ∷ Make DoPostNamed ∷ []) (push (Make DoLeaf ∷ tails 10 (Read CondTail ∷ s P.CloseParen ∷ Make DoPost ∷ []))) k o (mark_val (M.Name n) a ∷ mark_val x j ∷ mark_val m i ∷ us) c
-      (λ l o1 e o2 d z q f y o3. (_, refl, h.3 (after_named m i j n a l e y) o3 (λ w. d (sign P.CloseParen y w)) (h.2, (q, z)) (λ w. f (sign P.CloseParen y w) ∙ h.1 (sign P.Colon l (spell_expr e (sign P.CloseParen y w))))))
-      (
+      (λ l o1 e o2 d z q f y o3. (_, refl, h.3 (after_named m i j n a l e y) o3 (λ w. d (sign P.CloseParen y w)) (h.2, (q, z)) (λ w. f (sign P.CloseParen y w) ∙ h.1 (sign P.Colon l (spell_expr e (sign P.CloseParen y w)))))) (
         _,
         refl,
         tails_typed k 10 (Read CondTail ∷ s P.CloseParen ∷ Make DoPost ∷ k) (leaf a (M.Name n)) (mark_val x j ∷ mark_val m i ∷ us) o c (λ w. h.0 (spot m i ∷ sign P.OpenParen j w)) (omega arith) h.1 refl refl

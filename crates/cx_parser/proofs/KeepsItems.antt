@@ -35,12 +35,16 @@ module _ (k : List Symbol) where
   -- a method after its `(`
   made_method : (v : Option ℕ) (t : TypeTree) (n i : ℕ) → ShapedType t → (vs : Values) (c b : Fn) → ((w : Spots) → c w ≡ b (if_word v W.Virtual (spell_type t (name n i w)))) → MemberComes (Typed k) vs b → (j : ℕ) (o : Option Mark)
       → Typed (method_rest ++ k) o (mark_val (M.Punct P.OpenParen) j ∷ mark_val (M.Name n) i ∷ type_val t ∷ flag_val v ∷ vs) (λ w. c (sign P.OpenParen j w))
-  made_method v t n i st vs c b q h j o = (c, (λ w. refl), λ p o1 d sp f x o2 d2 f2 z o3 d3 sz f3 e o4 d4 se f4. (
-    _,
-    refl,
-    h (method v t n i p x z e) o4 d4 (st, sp, sz, se)
-        (λ w. f4 w ∙ (f3 (spell_tail e w) ∙ (f2 (spell_suffix z (spell_tail e w)) ∙ (f (if_word x W.Const (spell_suffix z (spell_tail e w))) ∙ q (spell_params p (if_word x W.Const (spell_suffix z (spell_tail e w)))))))),
-  ))
+  made_method v t n i st vs c b q h j o = (
+    c,
+    (λ w. refl),
+    λ p o1 d sp f x o2 d2 f2 z o3 d3 sz f3 e o4 d4 se f4. (
+      _,
+      refl,
+      h (method v t n i p x z e) o4 d4 (st, sp, sz, se)
+          (λ w. f4 w ∙ (f3 (spell_tail e w) ∙ (f2 (spell_suffix z (spell_tail e w)) ∙ (f (if_word x W.Const (spell_suffix z (spell_tail e w))) ∙ q (spell_params p (if_word x W.Const (spell_suffix z (spell_tail e w)))))))),
+    ),
+  )
 
   pub k_member : (o : Option Mark) (vs : Values) (c : Fn) → Typed (Read MemberPart ∷ k) o vs c → Kept (move MemberPart o) k o vs c
   k_member (Some (M.Word W.Public)) vs c h = λ i o j o1. (_, refl, h (access i W.Public j) o1 (λ w. c (word W.Public i (sign P.Colon j w))) refl (λ w. refl))

@@ -2,6 +2,7 @@
 use Rattle.std.proofs.Common.{◌≡◌, ℕ, zero, suc, ◌+◌, ◌<◌, true, false, eqb, refl, ◌∙◌, ap, arith}
 use Rattle.std.proofs.lemmas.Bool.Decides.{nat_tests}
 use Rattle.cx_parser.specs.Machine.{Config, exec, next}
+
 abbrev pub Takes : Config → Config → Type 0
 Takes c d = (n : ℕ) × (exec n c ≡ d)
 

@@ -4,3 +4,6 @@
 mod recognizer;
 
 pub use recognizer::{ParseFault, recognize};
+
+#[cfg(test)]
+mod tests;

@@ -45,7 +45,11 @@ pub fn cond_tail(stack: &mut Vec<Symbol>, look: Option<Mark>) -> Result<Advance,
 }
 
 /// An operand of a level.
-pub fn operand(stack: &mut Vec<Symbol>, level: u8, look: Option<Mark>) -> Result<Advance, AllocError>
+pub fn operand(
+    stack: &mut Vec<Symbol>,
+    level: u8,
+    look: Option<Mark>,
+) -> Result<Advance, AllocError>
     ensures { IfOk result (λ r. Expands r (Parts.Operand level) look (reverse stack.old.items) (reverse stack.new.items)) }
 {
     if level > 0 {
@@ -61,7 +65,11 @@ pub fn operand(stack: &mut Vec<Symbol>, level: u8, look: Option<Mark>) -> Result
 }
 
 /// After an operand of a level.
-pub fn level_tail(stack: &mut Vec<Symbol>, level: u8, look: Option<Mark>) -> Result<Advance, AllocError>
+pub fn level_tail(
+    stack: &mut Vec<Symbol>,
+    level: u8,
+    look: Option<Mark>,
+) -> Result<Advance, AllocError>
     ensures { IfOk result (λ r. Expands r (Parts.LevelTail level) look (reverse stack.old.items) (reverse stack.new.items)) }
 {
     if level == 0 {
@@ -71,7 +79,14 @@ pub fn level_tail(stack: &mut Vec<Symbol>, level: u8, look: Option<Mark>) -> Res
         return goes(stack, &[]);
     }
     match look {
-        Some(_) => eats(stack, &[Read(Operand(level - 1)), Make(DoBinary), Read(LevelTail(level))]),
+        Some(_) => eats(
+            stack,
+            &[
+                Read(Operand(level - 1)),
+                Make(DoBinary),
+                Read(LevelTail(level)),
+            ],
+        ),
         None => Ok(Advance::Stays),
     }
 }
@@ -110,10 +125,24 @@ pub fn primary(stack: &mut Vec<Symbol>, look: Option<Mark>) -> Result<Advance, A
                 Mark::Class(_) => eats(stack, &[OPEN_PAREN, Read(ArgsRest), Make(DoTemporary)]),
                 Mark::Std => eats(stack, &[SCOPE, Read(StdRest)]),
                 Mark::Word(k) => if sorts::casts(k) {
-                    eats(stack, &[OPEN_PAREN, Read(Assign), CLOSE_PAREN, Make(DoWordCast)])
+                    eats(
+                        stack,
+                        &[OPEN_PAREN, Read(Assign), CLOSE_PAREN, Make(DoWordCast)],
+                    )
                 } else {
                     match k {
-                        Word::StaticCast => eats(stack, &[LESS, Read(TypePart), GREATER, OPEN_PAREN, Read(Assign), CLOSE_PAREN, Make(DoStaticCast)]),
+                        Word::StaticCast => eats(
+                            stack,
+                            &[
+                                LESS,
+                                Read(TypePart),
+                                GREATER,
+                                OPEN_PAREN,
+                                Read(Assign),
+                                CLOSE_PAREN,
+                                Make(DoStaticCast),
+                            ],
+                        ),
                         _ => Ok(Advance::Stays),
                     }
                 },
@@ -165,7 +194,16 @@ pub fn args_rest(stack: &mut Vec<Symbol>, look: Option<Mark>) -> Result<Advance,
     ensures { IfOk result (λ r. Expands r Parts.ArgsRest look (reverse stack.old.items) (reverse stack.new.items)) }
 {
     if !sorts::is_sign(Punct::CloseParen, look) {
-        return goes(stack, &[Read(Assign), Make(DoOne), Read(SeveralTail), CLOSE_PAREN, Make(DoArgs)]);
+        return goes(
+            stack,
+            &[
+                Read(Assign),
+                Make(DoOne),
+                Read(SeveralTail),
+                CLOSE_PAREN,
+                Make(DoArgs),
+            ],
+        );
     }
     match look {
         Some(_) => eats(stack, &[Make(DoNoArgs)]),

@@ -30,7 +30,16 @@ pub fn params_rest(stack: &mut Vec<Symbol>, look: Option<Mark>) -> Result<Advanc
 {
     match look {
         Some(Mark::Punct(Punct::CloseParen)) => eats(stack, &[Make(DoNoParams)]),
-        _ => goes(stack, &[Read(ParamPart), Make(DoOneParam), Read(ParamsTail), CLOSE_PAREN, Make(DoParams)]),
+        _ => goes(
+            stack,
+            &[
+                Read(ParamPart),
+                Make(DoOneParam),
+                Read(ParamsTail),
+                CLOSE_PAREN,
+                Make(DoParams),
+            ],
+        ),
     }
 }
 
@@ -39,7 +48,10 @@ pub fn params_tail(stack: &mut Vec<Symbol>, look: Option<Mark>) -> Result<Advanc
     ensures { IfOk result (λ r. Expands r Parts.ParamsTail look (reverse stack.old.items) (reverse stack.new.items)) }
 {
     match look {
-        Some(Mark::Punct(Punct::Comma)) => eats(stack, &[Read(ParamPart), Make(DoMoreParams), Read(ParamsTail)]),
+        Some(Mark::Punct(Punct::Comma)) => eats(
+            stack,
+            &[Read(ParamPart), Make(DoMoreParams), Read(ParamsTail)],
+        ),
         _ => goes(stack, &[]),
     }
 }
@@ -61,9 +73,27 @@ pub fn specs_part(stack: &mut Vec<Symbol>, look: Option<Mark>) -> Result<Advance
 {
     match next_name(look) {
         Some(n) => if n == mark::PRE {
-            eats(stack, &[OPEN_PAREN, Read(Cond), CLOSE_PAREN, Make(DoPre), Make(DoMoreSpecs), Read(SpecsPart)])
+            eats(
+                stack,
+                &[
+                    OPEN_PAREN,
+                    Read(Cond),
+                    CLOSE_PAREN,
+                    Make(DoPre),
+                    Make(DoMoreSpecs),
+                    Read(SpecsPart),
+                ],
+            )
         } else if n == mark::POST {
-            eats(stack, &[OPEN_PAREN, Read(PostRest), Make(DoMoreSpecs), Read(SpecsPart)])
+            eats(
+                stack,
+                &[
+                    OPEN_PAREN,
+                    Read(PostRest),
+                    Make(DoMoreSpecs),
+                    Read(SpecsPart),
+                ],
+            )
         } else {
             goes(stack, &[])
         },
@@ -105,7 +135,10 @@ pub fn post_name(stack: &mut Vec<Symbol>, look: Option<Mark>) -> Result<Advance,
     ensures { IfOk result (λ r. Expands r Parts.PostName look (reverse stack.old.items) (reverse stack.new.items)) }
 {
     match look {
-        Some(Mark::Punct(Punct::Colon)) => eats(stack, &[Read(Cond), CLOSE_PAREN, Make(DoPostNamed)]),
+        Some(Mark::Punct(Punct::Colon)) => eats(
+            stack,
+            &[Read(Cond), CLOSE_PAREN, Make(DoPostNamed)],
+        ),
         _ => goes(stack, &NAMED_PREDICATE),
     }
 }
@@ -135,7 +168,15 @@ pub fn inits_part(stack: &mut Vec<Symbol>, look: Option<Mark>) -> Result<Advance
     ensures { IfOk result (λ r. Expands r Parts.InitsPart look (reverse stack.old.items) (reverse stack.new.items)) }
 {
     match look {
-        Some(Mark::Punct(Punct::Colon)) => eats(stack, &[Read(MemberInitPart), Make(DoOneInit), Read(InitsTail), Make(DoInits)]),
+        Some(Mark::Punct(Punct::Colon)) => eats(
+            stack,
+            &[
+                Read(MemberInitPart),
+                Make(DoOneInit),
+                Read(InitsTail),
+                Make(DoInits),
+            ],
+        ),
         _ => goes(stack, &[Make(DoNoInits)]),
     }
 }
@@ -145,7 +186,10 @@ pub fn inits_tail(stack: &mut Vec<Symbol>, look: Option<Mark>) -> Result<Advance
     ensures { IfOk result (λ r. Expands r Parts.InitsTail look (reverse stack.old.items) (reverse stack.new.items)) }
 {
     match look {
-        Some(Mark::Punct(Punct::Comma)) => eats(stack, &[Read(MemberInitPart), Make(DoMoreInits), Read(InitsTail)]),
+        Some(Mark::Punct(Punct::Comma)) => eats(
+            stack,
+            &[Read(MemberInitPart), Make(DoMoreInits), Read(InitsTail)],
+        ),
         _ => goes(stack, &[]),
     }
 }

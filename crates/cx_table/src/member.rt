@@ -15,9 +15,20 @@ use crate::table::Advance;
 use cx_syntax::{Mark, Punct, Word};
 use std::alloc::AllocError;
 
-const CONSTRUCTOR_REST: [Symbol; 4] = [Read(ParamsRest), Read(SuffixPart), Read(MakingPart), Make(DoConstructor)];
+const CONSTRUCTOR_REST: [Symbol; 4] = [
+    Read(ParamsRest),
+    Read(SuffixPart),
+    Read(MakingPart),
+    Make(DoConstructor),
+];
 
-const METHOD_REST: [Symbol; 5] = [Read(ParamsRest), Read(OptWord(Word::Const)), Read(SuffixPart), Read(TailPart), Make(DoMethod)];
+const METHOD_REST: [Symbol; 5] = [
+    Read(ParamsRest),
+    Read(OptWord(Word::Const)),
+    Read(SuffixPart),
+    Read(TailPart),
+    Make(DoMethod),
+];
 
 /// The members of a class.
 pub fn members_part(stack: &mut Vec<Symbol>, look: Option<Mark>) -> Result<Advance, AllocError>
@@ -26,7 +37,10 @@ pub fn members_part(stack: &mut Vec<Symbol>, look: Option<Mark>) -> Result<Advan
     if sorts::is_sign(Punct::CloseBrace, look) {
         goes(stack, &[])
     } else {
-        goes(stack, &[Read(MemberPart), Make(DoMoreMembers), Read(MembersPart)])
+        goes(
+            stack,
+            &[Read(MemberPart), Make(DoMoreMembers), Read(MembersPart)],
+        )
     }
 }
 
@@ -38,7 +52,18 @@ pub fn member_part(stack: &mut Vec<Symbol>, look: Option<Mark>) -> Result<Advanc
         Some(Mark::Word(Word::Public)) => eats(stack, &[COLON, Make(DoAccess)]),
         Some(Mark::Word(Word::Private)) => eats(stack, &[COLON, Make(DoAccess)]),
         Some(Mark::Word(Word::Virtual)) => eats(stack, &[Make(DoFlag), Read(VirtualRest)]),
-        Some(Mark::Word(Word::Explicit)) => eats(stack, &[Make(DoFlag), Expect(AClass), OPEN_PAREN, Read(ParamsRest), Read(SuffixPart), Read(MakingPart), Make(DoConstructor)]),
+        Some(Mark::Word(Word::Explicit)) => eats(
+            stack,
+            &[
+                Make(DoFlag),
+                Expect(AClass),
+                OPEN_PAREN,
+                Read(ParamsRest),
+                Read(SuffixPart),
+                Read(MakingPart),
+                Make(DoConstructor),
+            ],
+        ),
         Some(Mark::Punct(Punct::Tilde)) => goes(stack, &[Make(DoNoFlag), Read(VirtualRest)]),
         _ => goes(stack, &[Make(DoNoFlag), Read(MemberRest)]),
     }
@@ -62,7 +87,15 @@ pub fn member_class(stack: &mut Vec<Symbol>, look: Option<Mark>) -> Result<Advan
         Some(Mark::Punct(Punct::OpenParen)) => eats(stack, &CONSTRUCTOR_REST),
         _ => goes(
             stack,
-            &[Make(DoClassBase), Make(DoPlain), Read(StarTail(8)), Read(OptSign(Punct::And)), Make(DoType), NAME, Read(MemberName)],
+            &[
+                Make(DoClassBase),
+                Make(DoPlain),
+                Read(StarTail(8)),
+                Read(OptSign(Punct::And)),
+                Make(DoType),
+                NAME,
+                Read(MemberName),
+            ],
         ),
     }
 }
@@ -82,10 +115,29 @@ pub fn virtual_rest(stack: &mut Vec<Symbol>, look: Option<Mark>) -> Result<Advan
     ensures { IfOk result (λ r. Expands r Parts.VirtualRest look (reverse stack.old.items) (reverse stack.new.items)) }
 {
     match look {
-        Some(Mark::Punct(Punct::Tilde)) => eats(stack, &[Expect(AClass), OPEN_PAREN, CLOSE_PAREN, Read(SuffixPart), Read(TailPart), Make(DoDestructor)]),
+        Some(Mark::Punct(Punct::Tilde)) => eats(
+            stack,
+            &[
+                Expect(AClass),
+                OPEN_PAREN,
+                CLOSE_PAREN,
+                Read(SuffixPart),
+                Read(TailPart),
+                Make(DoDestructor),
+            ],
+        ),
         _ => goes(
             stack,
-            &[Read(TypePart), NAME, OPEN_PAREN, Read(ParamsRest), Read(OptWord(Word::Const)), Read(SuffixPart), Read(TailPart), Make(DoMethod)],
+            &[
+                Read(TypePart),
+                NAME,
+                OPEN_PAREN,
+                Read(ParamsRest),
+                Read(OptWord(Word::Const)),
+                Read(SuffixPart),
+                Read(TailPart),
+                Make(DoMethod),
+            ],
         ),
     }
 }

@@ -20,7 +20,16 @@ pub fn init_part(stack: &mut Vec<Symbol>, look: Option<Mark>) -> Result<Advance,
 {
     match look {
         Some(Mark::Punct(Punct::Assign)) => eats(stack, &[Read(Assign), Make(DoEquals)]),
-        Some(Mark::Punct(Punct::OpenParen)) => eats(stack, &[Read(Assign), Make(DoOne), Read(SeveralTail), CLOSE_PAREN, Make(DoParens)]),
+        Some(Mark::Punct(Punct::OpenParen)) => eats(
+            stack,
+            &[
+                Read(Assign),
+                Make(DoOne),
+                Read(SeveralTail),
+                CLOSE_PAREN,
+                Make(DoParens),
+            ],
+        ),
         _ => goes(stack, &[Make(DoBare)]),
     }
 }
@@ -104,15 +113,63 @@ pub fn stmt_part(stack: &mut Vec<Symbol>, look: Option<Mark>) -> Result<Advance,
     ensures { IfOk result (λ r. Expands r Parts.StmtPart look (reverse stack.old.items) (reverse stack.new.items)) }
 {
     match look {
-        Some(Mark::Word(Word::If)) => eats(stack, &[OPEN_PAREN, Read(Assign), CLOSE_PAREN, Read(StmtPart), Read(ElseTail)]),
-        Some(Mark::Word(Word::While)) => eats(stack, &[OPEN_PAREN, Read(Assign), CLOSE_PAREN, Read(StmtPart), Make(DoWhile)]),
-        Some(Mark::Word(Word::For)) => eats(stack, &[OPEN_PAREN, Read(SimplePart), Read(OptExpr), SEMICOLON, Read(OptExpr), CLOSE_PAREN, Read(StmtPart), Make(DoFor)]),
+        Some(Mark::Word(Word::If)) => eats(
+            stack,
+            &[
+                OPEN_PAREN,
+                Read(Assign),
+                CLOSE_PAREN,
+                Read(StmtPart),
+                Read(ElseTail),
+            ],
+        ),
+        Some(Mark::Word(Word::While)) => eats(
+            stack,
+            &[
+                OPEN_PAREN,
+                Read(Assign),
+                CLOSE_PAREN,
+                Read(StmtPart),
+                Make(DoWhile),
+            ],
+        ),
+        Some(Mark::Word(Word::For)) => eats(
+            stack,
+            &[
+                OPEN_PAREN,
+                Read(SimplePart),
+                Read(OptExpr),
+                SEMICOLON,
+                Read(OptExpr),
+                CLOSE_PAREN,
+                Read(StmtPart),
+                Make(DoFor),
+            ],
+        ),
         Some(Mark::Word(Word::Return)) => eats(stack, &[Read(OptExpr), SEMICOLON, Make(DoReturn)]),
         Some(Mark::Word(Word::Break)) => eats(stack, &[SEMICOLON, Make(DoBreak)]),
         Some(Mark::Word(Word::Continue)) => eats(stack, &[SEMICOLON, Make(DoContinue)]),
         Some(Mark::Word(Word::Throw)) => eats(stack, &[Read(OptExpr), SEMICOLON, Make(DoThrow)]),
-        Some(Mark::Word(Word::Try)) => eats(stack, &[Read(BlockPart), Read(HandlerPart), Make(DoOneHandler), Read(HandlersTail), Make(DoTry)]),
-        Some(Mark::Word(Word::ContractAssert)) => eats(stack, &[OPEN_PAREN, Read(Cond), CLOSE_PAREN, SEMICOLON, Make(DoAssert)]),
+        Some(Mark::Word(Word::Try)) => eats(
+            stack,
+            &[
+                Read(BlockPart),
+                Read(HandlerPart),
+                Make(DoOneHandler),
+                Read(HandlersTail),
+                Make(DoTry),
+            ],
+        ),
+        Some(Mark::Word(Word::ContractAssert)) => eats(
+            stack,
+            &[
+                OPEN_PAREN,
+                Read(Cond),
+                CLOSE_PAREN,
+                SEMICOLON,
+                Make(DoAssert),
+            ],
+        ),
         Some(Mark::Punct(Punct::OpenBrace)) => goes(stack, &[Read(BlockPart), Make(DoCompound)]),
         _ => goes(stack, &[Read(SimplePart)]),
     }
@@ -144,7 +201,10 @@ pub fn handlers_tail(stack: &mut Vec<Symbol>, look: Option<Mark>) -> Result<Adva
     ensures { IfOk result (λ r. Expands r Parts.HandlersTail look (reverse stack.old.items) (reverse stack.new.items)) }
 {
     if sorts::is_keyword(Word::Catch, look) {
-        goes(stack, &[Read(HandlerPart), Make(DoMoreHandlers), Read(HandlersTail)])
+        goes(
+            stack,
+            &[Read(HandlerPart), Make(DoMoreHandlers), Read(HandlersTail)],
+        )
     } else {
         goes(stack, &[])
     }

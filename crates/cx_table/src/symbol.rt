@@ -196,12 +196,21 @@ pub enum Symbol {
 }
 
 pub const OPEN_PAREN: Symbol = Symbol::Expect(Kind::Sign(Punct::OpenParen));
+
 pub const CLOSE_PAREN: Symbol = Symbol::Expect(Kind::Sign(Punct::CloseParen));
+
 pub const OPEN_BRACE: Symbol = Symbol::Expect(Kind::Sign(Punct::OpenBrace));
+
 pub const CLOSE_BRACE: Symbol = Symbol::Expect(Kind::Sign(Punct::CloseBrace));
+
 pub const SEMICOLON: Symbol = Symbol::Expect(Kind::Sign(Punct::Semicolon));
+
 pub const COLON: Symbol = Symbol::Expect(Kind::Sign(Punct::Colon));
+
 pub const SCOPE: Symbol = Symbol::Expect(Kind::Sign(Punct::Scope));
+
 pub const LESS: Symbol = Symbol::Expect(Kind::Sign(Punct::Less));
+
 pub const GREATER: Symbol = Symbol::Expect(Kind::Sign(Punct::Greater));
+
 pub const NAME: Symbol = Symbol::Expect(Kind::AName);

@@ -22,19 +22,66 @@ pub enum Advance {
 }
 
 /// A step of a part that doesn't look at the next token, or of one of the others.
-pub fn expand(stack: &mut Vec<Symbol>, part: Part, look: Option<Mark>) -> Result<Advance, AllocError>
+pub fn expand(
+    stack: &mut Vec<Symbol>,
+    part: Part,
+    look: Option<Mark>,
+) -> Result<Advance, AllocError>
     ensures { IfOk result (λ r. Expands r part look (reverse stack.old.items) (reverse stack.new.items)) }
 {
     match part {
         Assign => goes(stack, &[Read(Operand(10)), Read(AssignTail)]),
         Cond => goes(stack, &[Read(Operand(10)), Read(CondTail)]),
-        TypePart => goes(stack, &[Read(OptWord(Word::Const)), Read(BasePart), Make(DoPointers), Read(StarTail(8)), Read(OptSign(Punct::And)), Make(DoType)]),
-        LocalPart => goes(stack, &[Read(TypePart), NAME, Read(InitPart), Make(DoLocal)]),
-        BlockPart => goes(stack, &[OPEN_BRACE, Make(DoNoStmts), Read(StmtsPart), CLOSE_BRACE, Make(DoBlock)]),
-        HandlerPart => goes(stack, &[Expect(Keyword(Word::Catch)), OPEN_PAREN, Read(CatchPart), CLOSE_PAREN, Read(BlockPart), Make(DoHandler)]),
+        TypePart => goes(
+            stack,
+            &[
+                Read(OptWord(Word::Const)),
+                Read(BasePart),
+                Make(DoPointers),
+                Read(StarTail(8)),
+                Read(OptSign(Punct::And)),
+                Make(DoType),
+            ],
+        ),
+        LocalPart => goes(
+            stack,
+            &[Read(TypePart), NAME, Read(InitPart), Make(DoLocal)],
+        ),
+        BlockPart => goes(
+            stack,
+            &[
+                OPEN_BRACE,
+                Make(DoNoStmts),
+                Read(StmtsPart),
+                CLOSE_BRACE,
+                Make(DoBlock),
+            ],
+        ),
+        HandlerPart => goes(
+            stack,
+            &[
+                Expect(Keyword(Word::Catch)),
+                OPEN_PAREN,
+                Read(CatchPart),
+                CLOSE_PAREN,
+                Read(BlockPart),
+                Make(DoHandler),
+            ],
+        ),
         ParamPart => goes(stack, &[Read(TypePart), Read(OptName), Make(DoParam)]),
-        SuffixPart => goes(stack, &[Read(OptWord(Word::Noexcept)), Make(DoNoSpecs), Read(SpecsPart), Make(DoSuffix)]),
-        MemberInitPart => goes(stack, &[NAME, OPEN_PAREN, Read(ArgsRest), Make(DoMemberInit)]),
+        SuffixPart => goes(
+            stack,
+            &[
+                Read(OptWord(Word::Noexcept)),
+                Make(DoNoSpecs),
+                Read(SpecsPart),
+                Make(DoSuffix),
+            ],
+        ),
+        MemberInitPart => goes(
+            stack,
+            &[NAME, OPEN_PAREN, Read(ArgsRest), Make(DoMemberInit)],
+        ),
         ItemsPart => match look {
             None => goes(stack, &[]),
             Some(_) => goes(stack, &[Read(ItemPart), Make(DoMoreItems), Read(ItemsPart)]),

@@ -21,9 +21,21 @@ pub fn base_part(stack: &mut Vec<Symbol>, look: Option<Mark>) -> Result<Advance,
 {
     match look {
         Some(Mark::Class(_)) => eats(stack, &[Make(DoClassBase)]),
-        Some(Mark::Std) => eats(stack, &[SCOPE, Expect(TheContracts), SCOPE, NAME, Make(DoLibraryBase)]),
+        Some(Mark::Std) => eats(
+            stack,
+            &[
+                SCOPE,
+                Expect(TheContracts),
+                SCOPE,
+                NAME,
+                Make(DoLibraryBase),
+            ],
+        ),
         Some(Mark::Word(Word::Unsigned)) => eats(stack, &[Read(UnsignedTail)]),
-        Some(Mark::Word(Word::Long)) => eats(stack, &[Expect(Keyword(Word::Long)), Make(DoLongLong)]),
+        Some(Mark::Word(Word::Long)) => eats(
+            stack,
+            &[Expect(Keyword(Word::Long)), Make(DoLongLong)],
+        ),
         Some(Mark::Word(k)) => if sorts::names_base(k) {
             eats(stack, &[Make(DoWordBase)])
         } else {
@@ -39,26 +51,44 @@ pub fn unsigned_tail(stack: &mut Vec<Symbol>, look: Option<Mark>) -> Result<Adva
 {
     match look {
         Some(Mark::Word(Word::Int)) => eats(stack, &[Make(DoUnsignedInt)]),
-        Some(Mark::Word(Word::Long)) => eats(stack, &[Expect(Keyword(Word::Long)), Make(DoUnsignedLongLong)]),
+        Some(Mark::Word(Word::Long)) => eats(
+            stack,
+            &[Expect(Keyword(Word::Long)), Make(DoUnsignedLongLong)],
+        ),
         _ => goes(stack, &[Make(DoWordBase)]),
     }
 }
 
 /// At most so many `*`, each with the `const` after it.
-pub fn star_tail(stack: &mut Vec<Symbol>, left: u8, look: Option<Mark>) -> Result<Advance, AllocError>
+pub fn star_tail(
+    stack: &mut Vec<Symbol>,
+    left: u8,
+    look: Option<Mark>,
+) -> Result<Advance, AllocError>
     ensures { IfOk result (λ r. Expands r (Parts.StarTail left) look (reverse stack.old.items) (reverse stack.new.items)) }
 {
     if left == 0 || !sorts::is_sign(Punct::Star, look) {
         return goes(stack, &[]);
     }
     match look {
-        Some(_) => eats(stack, &[Read(OptWord(Word::Const)), Make(DoStar), Read(StarTail(left - 1))]),
+        Some(_) => eats(
+            stack,
+            &[
+                Read(OptWord(Word::Const)),
+                Make(DoStar),
+                Read(StarTail(left - 1)),
+            ],
+        ),
         None => Ok(Advance::Stays),
     }
 }
 
 /// A keyword that may be missing.
-pub fn opt_word(stack: &mut Vec<Symbol>, keyword: Word, look: Option<Mark>) -> Result<Advance, AllocError>
+pub fn opt_word(
+    stack: &mut Vec<Symbol>,
+    keyword: Word,
+    look: Option<Mark>,
+) -> Result<Advance, AllocError>
     ensures { IfOk result (λ r. Expands r (Parts.OptWord keyword) look (reverse stack.old.items) (reverse stack.new.items)) }
 {
     if !sorts::is_keyword(keyword, look) {
@@ -71,7 +101,11 @@ pub fn opt_word(stack: &mut Vec<Symbol>, keyword: Word, look: Option<Mark>) -> R
 }
 
 /// A punctuator that may be missing.
-pub fn opt_sign(stack: &mut Vec<Symbol>, sign: Punct, look: Option<Mark>) -> Result<Advance, AllocError>
+pub fn opt_sign(
+    stack: &mut Vec<Symbol>,
+    sign: Punct,
+    look: Option<Mark>,
+) -> Result<Advance, AllocError>
     ensures { IfOk result (λ r. Expands r (Parts.OptSign sign) look (reverse stack.old.items) (reverse stack.new.items)) }
 {
     if !sorts::is_sign(sign, look) {
