@@ -168,9 +168,9 @@ is_too_deep image s function = function.counted && nat_le 4096 (depth image s)
 abbrev pub entered : Image → State → ℕ → List Value → List Value → Option Event → Step
 entered image s index arguments operands event =
     on_some (slice_get image.functions index) mixed (λ function.
-      if is_too_deep image s function
-      then Ends endings.TooDeep None
-      else Goes (record s { frame = frame_of index function arguments; below = moved s.frame s.frame.place operands ∷ s.below }) event)
+    if is_too_deep image s function
+    then Ends endings.TooDeep None
+    else Goes (record s { frame = frame_of index function arguments; below = moved s.frame s.frame.place operands ∷ s.below }) event)
 
 -- the last operands are the arguments, in their order
 abbrev pub called : Image → State → ℕ → ℕ → Step
@@ -242,8 +242,8 @@ field_value fields.Comment violated assertion = assertion.comment
 abbrev pub asked : Image → State → ViolationField → Step
 asked image s field = on_number s.frame.operands (λ n below. on_natural n (λ index.
     on_some (slice_get s.violations index) mixed (λ violated.
-      on_some (slice_get image.assertions violated.assertion) mixed (λ assertion.
-        next s (values.Number (pos (field_value field violated assertion)) ∷ below)))))
+    on_some (slice_get image.assertions violated.assertion) mixed (λ assertion.
+    next s (values.Number (pos (field_value field violated assertion)) ∷ below)))))
 
 -- the violation is made; the handler gets its number, and the default handler needs no frame
 abbrev pub violated : Image → State → Violated → Step

@@ -338,7 +338,12 @@ fn a_fault_in_a_statement_is_told_at_its_token(rt: HostRuntime) -> Result<(), Fa
         },
     ];
     for row in rows {
-        assert_eq!(rt; fault_in_body(rt.alloc(), row.text)?, Some(row.place), "{}", row.text);
+        assert_eq!(rt;
+            fault_in_body(rt.alloc(), row.text)?,
+            Some(row.place),
+            "{}",
+            row.text
+        );
     }
     Ok(())
 }
@@ -476,7 +481,12 @@ fn a_fault_in_an_item_is_told_at_its_token(rt: HostRuntime) -> Result<(), Fail> 
         },
     ];
     for row in rows {
-        assert_eq!(rt; fault_of(rt.alloc(), row.text)?, Some(row.place), "{}", row.text);
+        assert_eq!(rt;
+            fault_of(rt.alloc(), row.text)?,
+            Some(row.place),
+            "{}",
+            row.text
+        );
     }
     Ok(())
 }

@@ -81,9 +81,9 @@ pub from_last : (g : Changes) (k place : ℕ) (v : Option ℕ) → is_gt (nat_cm
     → ((q : ℕ) → ⊤ × (is_gt (nat_cmp q place) ≡ false) → IsSome (g q) → is_lt (nat_cmp k q) ≡ false) → v ≡ value_at g place
 from_last g k place v below is greatest =
     sym (since_change g k place v (le_from_cmp k place below) is
-      (λ q l h. none_at (g q) (λ some.
-        let no : q ≤ k = not_lt k q (greatest q (tt, cmp_from_le q place h) some) in
-        absurd (omega arith))))
+    (λ q l h. none_at (g q) (λ some.
+    let no : q ≤ k = not_lt k q (greatest q (tt, cmp_from_le q place h) some) in
+    absurd (omega arith))))
 
 pub from_no_entry : (g : Changes) (place : ℕ) → ((q : ℕ) → ⊤ × (is_gt (nat_cmp q place) ≡ false) → g q ≡ None) → None ≡ value_at g place
 from_no_entry g place none = sym (no_change g place (λ q l. none q (tt, cmp_from_le q place l)))
@@ -120,19 +120,19 @@ pub paints : (g h : Changes) (region : Region) (index : ℕ) → region.start < 
     → ((q : ℕ) → h q ≡ painted g region index q) → (place : ℕ) → value_at h place ≡ (if covers place region then Some index else value_at g place)
 paints g h region index some none is place =
     elim (cases_lt place region.start) [
-      inl lt ↦
-        rw (not_before place region lt)
-        (same_before g h place (λ q l. is q ∙ painted_other g region index q (inl (omega arith)) (inl (omega arith))))
-    | inr le ↦ elim (cases_lt place region.end) [
-        inl lt ↦
-          rw (cover_inside place region le lt)
-          (since_change h region.start place (Some index) le (is region.start ∙ painted_start g region index)
+      | inl lt ↦
+          rw (not_before place region lt)
+          (same_before g h place (λ q l. is q ∙ painted_other g region index q (inl (omega arith)) (inl (omega arith))))
+      | inr le ↦ elim (cases_lt place region.end) [
+        | inl lt ↦
+            rw (cover_inside place region le lt)
+            (since_change h region.start place (Some index) le (is region.start ∙ painted_start g region index)
             (λ q l m. is q ∙ painted_other g region index q (inr l) (inl (omega arith)) ∙ none q l (omega arith)))
-      | inr le_end ↦
-          let end : value_at h region.end ≡ value_at g region.end =
+        | inr le_end ↦
+            let end : value_at h region.end ≡ value_at g region.end =
             at_change h region.end (changed_to (g region.end) (value_at g region.start)) (is region.end ∙ painted_end g region index some) ∙ sym (at_end g region.start region.end some none) in
-          rw (not_behind place region le_end)
-          (same_from g h region.end place le_end end (λ q l. is q ∙ painted_other g region index q (inr (omega arith)) (inr l)))
+            rw (not_behind place region le_end)
+            (same_from g h region.end place le_end end (λ q l. is q ∙ painted_other g region index q (inr (omega arith)) (inr l)))
       ]
     ]
 
@@ -143,12 +143,12 @@ inside place region is = (grind (arith, common_steps, is), grind (arith, common_
 pub keeps_changes : (g : Changes) (region : Region) (index q : ℕ) → IsSome (g q) ⊎ ((q ≡ region.start) ⊎ (q ≡ region.end)) → IsSome (painted g region index q)
 keeps_changes g region index q why =
     elim (q == region.start) as (λ s. (q == region.start) ≡ s → IsSome (if s then Some (Some index) else if q == region.end then Some (changed_to (g region.end) (value_at g region.start)) else g q)) [
-      true ↦ λ e. search rules
-    | false ↦ λ ne. elim (q == region.end) as (λ t. (q == region.end) ≡ t → IsSome (if t then Some (changed_to (g region.end) (value_at g region.start)) else g q)) [
-        true ↦ λ e. search rules
-      | false ↦ λ ne_end. elim why [
-          inl old ↦ old
-        | inr new ↦ elim new [ inl e ↦ absurd (grind (arith, common_steps, ne, e)) | inr e ↦ absurd (grind (arith, common_steps, ne_end, e)) ]
+      | true ↦ λ e. search rules
+      | false ↦ λ ne. elim (q == region.end) as (λ t. (q == region.end) ≡ t → IsSome (if t then Some (changed_to (g region.end) (value_at g region.start)) else g q)) [
+        | true ↦ λ e. search rules
+        | false ↦ λ ne_end. elim why [
+          | inl old ↦ old
+          | inr new ↦ elim new [ inl e ↦ absurd (grind (arith, common_steps, ne, e)) | inr e ↦ absurd (grind (arith, common_steps, ne_end, e)) ]
         ]
       ] refl
     ] refl
@@ -156,9 +156,9 @@ keeps_changes g region index q why =
 pub other_change : (g : Changes) (region : Region) (index q : ℕ) → IsSome (painted g region index q) → IsSome (g q) ⊎ ((q ≡ region.start) ⊎ (q ≡ region.end))
 other_change g region index q there =
     elim (q == region.start) as (λ s. (q == region.start) ≡ s → IsSome (if s then Some (Some index) else if q == region.end then Some (changed_to (g region.end) (value_at g region.start)) else g q) → IsSome (g q) ⊎ ((q ≡ region.start) ⊎ (q ≡ region.end))) [
-      true ↦ λ e h. inr (inl (grind (arith, common_steps, e)))
-    | false ↦ λ ne h. elim (q == region.end) as (λ t. (q == region.end) ≡ t → IsSome (if t then Some (changed_to (g region.end) (value_at g region.start)) else g q) → IsSome (g q) ⊎ ((q ≡ region.start) ⊎ (q ≡ region.end))) [
-        true ↦ λ e h'. inr (inr (grind (arith, common_steps, e)))
-      | false ↦ λ ne_end h'. inl h'
+      | true ↦ λ e h. inr (inl (grind (arith, common_steps, e)))
+      | false ↦ λ ne h. elim (q == region.end) as (λ t. (q == region.end) ≡ t → IsSome (if t then Some (changed_to (g region.end) (value_at g region.start)) else g q) → IsSome (g q) ⊎ ((q ≡ region.start) ⊎ (q ≡ region.end))) [
+        | true ↦ λ e h'. inr (inr (grind (arith, common_steps, e)))
+        | false ↦ λ ne_end h'. inl h'
       ] refl h
     ] refl there

@@ -27,15 +27,15 @@ found_in : (regions : List Region) (base place found : ℕ) → first_covering r
 found_in [] base place found is = absurd cc
 found_in (region ∷ regions) base place found is =
     elim (covers place region) as (λ b. covers place region ≡ b → (if b then Some base else first_covering regions (base + 1) place) ≡ Some found → IsFound (region ∷ regions) base place found) [
-      true ↦ λ yes here.
-        let e : base ≡ found = cc here in
-        let z : found - base ≡ 0 = omega arith in
-        record { behind = omega arith; region = region; at = rw z refl; covers = yes }
-    | false ↦ λ no there.
-        let more = found_in regions (base + 1) place found there in
-        let le : base + 1 ≤ found = more.behind in
-        let z : found - base ≡ suc (found - (base + 1)) = omega arith in
-        record { behind = omega arith; region = more.region; at = rw z more.at; covers = more.covers }
+      | true ↦ λ yes here.
+          let e : base ≡ found = cc here in
+          let z : found - base ≡ 0 = omega arith in
+          record { behind = omega arith; region = region; at = rw z refl; covers = yes }
+      | false ↦ λ no there.
+          let more = found_in regions (base + 1) place found there in
+          let le : base + 1 ≤ found = more.behind in
+          let z : found - base ≡ suc (found - (base + 1)) = omega arith in
+          record { behind = omega arith; region = more.region; at = rw z more.at; covers = more.covers }
     ] refl is
 
 slice_drop : (regions : List Region) (k n : ℕ) → slice_get (drop k regions) n ≡ slice_get regions (k + n)
@@ -72,8 +72,8 @@ step_some regions k place found is lt =
     let here = within_at regions k (omega arith) in
     let e = sym (from_here regions k place here.0 here.1) ∙ is in
     elim (covers place here.0) as (λ b. (if b then Some k else first_covering (drop (k + 1) regions) (k + 1) place) ≡ Some found → first_covering (drop (k + 1) regions) (k + 1) place ≡ Some found) [
-      true ↦ λ same. let same_place : k ≡ found = cc same in absurd (omega arith)
-    | false ↦ λ there. there
+      | true ↦ λ same. let same_place : k ≡ found = cc same in absurd (omega arith)
+      | false ↦ λ there. there
     ] e
 
 pub keeps_some : (regions : List Region) (k d place found : ℕ) → first_covering (drop k regions) k place ≡ Some found → k + d ≤ found
@@ -102,14 +102,14 @@ step_none : (regions : List Region) (k place : ℕ) → first_covering (drop k r
     → first_covering (drop (k + 1) regions) (k + 1) place ≡ None
 step_none regions k place is =
     elim (cases_lt k (length regions)) [
-      inl lt ↦
-        let here = within_at regions k lt in
-        let e = sym (from_here regions k place here.0 here.1) ∙ is in
-        elim (covers place here.0) as (λ b. (if b then Some k else first_covering (drop (k + 1) regions) (k + 1) place) ≡ None → first_covering (drop (k + 1) regions) (k + 1) place ≡ None) [
-          true ↦ λ other. absurd cc
-        | false ↦ λ there. there
-        ] e
-    | inr le ↦ past_end regions (k + 1) place (omega arith)
+      | inl lt ↦
+          let here = within_at regions k lt in
+          let e = sym (from_here regions k place here.0 here.1) ∙ is in
+          elim (covers place here.0) as (λ b. (if b then Some k else first_covering (drop (k + 1) regions) (k + 1) place) ≡ None → first_covering (drop (k + 1) regions) (k + 1) place ≡ None) [
+            | true ↦ λ other. absurd cc
+            | false ↦ λ there. there
+          ] e
+      | inr le ↦ past_end regions (k + 1) place (omega arith)
     ]
 
 keeps_none : (regions : List Region) (k d place : ℕ) → first_covering (drop k regions) k place ≡ None

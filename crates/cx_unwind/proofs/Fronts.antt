@@ -32,16 +32,16 @@ whole_crossing regions count later x =
 no_crossing : (regions : List Region) (count later : ℕ) → IsNested (take count regions) → later < count → IsCrossing regions later → ⊥
 no_crossing regions count later nested lt x =
     x.not_around (nested x.earlier later x.a x.b x.before
-      (at_front regions count x.earlier x.a (omega (arith, x.before)) x.at_earlier) (at_front regions count later x.b lt x.at_later) x.overlaps)
+    (at_front regions count x.earlier x.a (omega (arith, x.before)) x.at_earlier) (at_front regions count later x.b lt x.at_later) x.overlaps)
 
 pub is_first : (regions : List Region) (nested crossing : ℕ) → nested < crossing → crossing ≤ nested + 1 → IsNested (take nested regions) → (later : ℕ) × IsCrossing (take crossing regions) later
     → IsFirstCrossing regions nested
 is_first regions nested crossing lt le n x =
     let w = whole_crossing regions crossing x.0 x.1 in
     let e : x.0 ≡ nested = elim (cases_lt x.0 nested) [
-        inl before ↦ absurd (no_crossing regions nested x.0 n before w.1)
+      | inl before ↦ absurd (no_crossing regions nested x.0 n before w.1)
       | inr behind ↦ omega (arith, w.0)
-      ] in
+    ] in
     record {
       crosses = subst (λ (k : ℕ). IsCrossing regions k) e w.1;
       first = λ other before. no_crossing regions nested other n before;

@@ -20,7 +20,11 @@ fn the_innermost_region_is_found_first(rt: HostRuntime) -> Result<(), Fail> {
     assert_eq!(rt; find(&table, 3, Some(0)), Some(1));
     assert_eq!(rt; find(&table, 3, Some(1)), None);
     assert_eq!(rt; find(&table, 9, None), None, "an end isn't covered");
-    assert_eq!(rt; find(&table, 7, Some(0)), Some(1), "behind a region that ends before");
+    assert_eq!(rt;
+        find(&table, 7, Some(0)),
+        Some(1),
+        "behind a region that ends before"
+    );
     Ok(())
 }
 

@@ -40,4 +40,4 @@ outwards-smaller c =
     let e = sym inv.2 ∙ c.in-Some.is in
     let f = found_from c.args.table.now inv.0 c.args.place c.in-Some.index e in
     goes_outwards c.args.table.now c.in-Some.index c.args.place c.outwards.found c.index-found.result.now c.in-Some.is f.within
-      (parent_of c.args.table.now c.table.inside.regions.items (get nat_cmp c.table.inside.changes) c.table.inside.parents.items inv.0 c.args.place c.in-Some.index c.index-found.result.now c.table.view_is c.table.invariant e c.index-found.ensures)
+    (parent_of c.args.table.now c.table.inside.regions.items (get nat_cmp c.table.inside.changes) c.table.inside.parents.items inv.0 c.args.place c.in-Some.index c.index-found.result.now c.table.view_is c.table.invariant e c.index-found.ensures)

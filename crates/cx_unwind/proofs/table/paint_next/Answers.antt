@@ -34,12 +34,12 @@ unfolding none
 returns-clause-painted c = λ nested.
     let at = slice_get-get_or c.args.regions.now c.args.from none c.requires.within in
     subst (λ (outer : Option _). IsPainted c.args.regions.now c.args.from (get nat_cmp c.paint.new.changes) (slice_set c.args.parents.now.items c.args.from outer)) (sym c.in_ok-outer.ensures.outer)
-      (layered c.args.regions.now c.args.from (get nat_cmp c.args.changes.now) (get nat_cmp c.paint.new.changes) c.args.parents.now.items (get_or c.args.regions.now c.args.from none) at c.if-region.false
-        c.if-has_change_between.ensures.none c.in_ok-outer.ensures.changes c.requires.painted)
+    (layered c.args.regions.now c.args.from (get nat_cmp c.args.changes.now) (get nat_cmp c.paint.new.changes) c.args.parents.now.items (get_or c.args.regions.now c.args.from none) at c.if-region.false
+    c.if-has_change_between.ensures.none c.in_ok-outer.ensures.changes c.requires.painted)
 
 pub returns-clause-laid : goal.returns-clause-laid
 unfolding none
 returns-clause-laid c = λ nested.
     let at = slice_get-get_or c.args.regions.now c.args.from none c.requires.within in
     layered_laid c.args.regions.now c.args.from (get nat_cmp c.args.changes.now) (get nat_cmp c.paint.new.changes) (get_or c.args.regions.now c.args.from none) at c.if-region.false
-      c.if-has_change_between.ensures.none c.in_ok-outer.ensures.changes c.requires.laid
+    c.if-has_change_between.ensures.none c.in_ok-outer.ensures.changes c.requires.laid
