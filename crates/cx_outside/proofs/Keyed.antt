@@ -10,12 +10,12 @@ use Rattle.std.proofs.lemmas.Map.Text.{is_eq-slice_cmp}
 use Rattle.cx_outside.specs.Folder.{Folder, Puts}
 
 module _ {K : Type 0} (eq : K → K → Bool) (test : K → Bool) where
-  other_entries : {X : Type 0} (old new : List (K × X)) → KeepsOthers eq test old new → (other : K → Bool) → IsKeyTest eq other → AreApart test other → lookup other new ≡ lookup other old
+  pub other_entries : {X : Type 0} (old new : List (K × X)) → KeepsOthers eq test old new → (other : K → Bool) → IsKeyTest eq other → AreApart test other → lookup other new ≡ lookup other old
   unfolding KeepsOthers
   other_entries old new h = h
 
 module _ {K : Type 0} (bytes : K → List ℕ) where
-  apart : (name other : List ℕ) → other ≢ name → (k : K) → is_eq (slice_cmp nat_cmp name (bytes k)) ≡ true → is_eq (slice_cmp nat_cmp other (bytes k)) ≡ false
+  pub apart : (name other : List ℕ) → other ≢ name → (k : K) → is_eq (slice_cmp nat_cmp name (bytes k)) ≡ true → is_eq (slice_cmp nat_cmp other (bytes k)) ≡ false
   apart name other differs k here =
       let own : name ≡ bytes k = (bytes_decides name (bytes k)).0 (sym (is_eq-slice_cmp name (bytes k)) ∙ here) in
       ⊎_elim
