@@ -1,4 +1,4 @@
 mod Changes
-mod Covering
+pub mod Covering
 mod Layers
 mod Fronts
