@@ -1,0 +1,11 @@
+pub mod Places
+pub mod Takes
+pub mod Entered
+pub mod Steps
+pub mod At
+pub mod Shapes
+pub mod Calls
+pub mod Thrown
+pub mod Acts
+pub mod Unwinds
+pub mod GoesOn
