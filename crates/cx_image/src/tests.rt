@@ -1,9 +1,9 @@
-ghost use Rattle.std.specs.Prelude.{◌≡◌, [], ◌∷◌, IfOk};
-ghost use Rattle.cx_code.specs.Valid.{IsValid};
+ghost use Rattle.std.specs.Prelude.{◌≡◌, [], ◌∷◌, IfOk, codes, true, false};
+ghost use Rattle.cx_code.specs.Rules.{IsValid};
 
 use super::*;
 use cx_code::{
-    Assertion, AssertionKind, Function, GlobalEntry, Image, Initial, Instruction, TypeEntry,
+    Assertion, AssertionKind, Function, GlobalEntry, Image, Initial, Instruction, Region, TypeEntry,
 };
 use cx_outside::{Items, NoMemory, Text};
 use std::alloc::Global;
@@ -27,7 +27,52 @@ fn code(alloc: Global) -> Result<Items<Instruction>, NoMemory>
     Ok(code)
 }
 
-/// An image with one of each thing that a valid image without regions can have.
+/// A function of that code, which catches what is thrown at its end and begins again.
+fn body(alloc: Global) -> Result<Function, NoMemory>
+    ensures { IfOk result (λ function. function ≡ record { name = codes "m"; counted = true; parameters = 0; slots = 3; result = true; code = record { code = 1; a = 0; b = 258 } ∷ record { code = 39; a = 0; b = 0 } ∷ []; regions = record { start = 1; end = 2; kind = 2; of = 1; target = 0; depth = 0 } ∷ [] }) }
+{
+    let mut regions = Items::new(alloc);
+    regions.push(Region {
+        start: 1,
+        end: 2,
+        kind: 2,
+        of: 1,
+        target: 0,
+        depth: 0,
+    })?;
+    Ok(Function {
+        name: Text::copy_of(alloc, b"m")?,
+        counted: true,
+        parameters: 0,
+        slots: 3,
+        result: true,
+        code: code(alloc)?,
+        regions,
+    })
+}
+
+/// A function that takes a value and gives none.
+fn hook(alloc: Global) -> Result<Function, NoMemory>
+    ensures { IfOk result (λ function. function ≡ record { name = codes "h"; counted = false; parameters = 1; slots = 1; result = false; code = record { code = 39; a = 0; b = 0 } ∷ []; regions = [] }) }
+{
+    let mut code = Items::new(alloc);
+    code.push(Instruction {
+        code: 39,
+        a: 0,
+        b: 0,
+    })?;
+    Ok(Function {
+        name: Text::copy_of(alloc, b"h")?,
+        counted: false,
+        parameters: 1,
+        slots: 1,
+        result: false,
+        code,
+        regions: Items::new(alloc),
+    })
+}
+
+/// An image with one of each thing that an image has.
 fn sample(alloc: Global) -> Result<Image, NoMemory>
     ensures { IfOk result IsValid }
 {
@@ -37,7 +82,7 @@ fn sample(alloc: Global) -> Result<Image, NoMemory>
     types.push(TypeEntry {
         name: Text::copy_of(alloc, b"E")?,
         leaves: 256,
-        dropper: 1,
+        dropper: 2,
     })?;
     let mut globals = Items::new(alloc);
     globals.push(GlobalEntry {
@@ -45,15 +90,8 @@ fn sample(alloc: Global) -> Result<Image, NoMemory>
         initial: Initial::Number(1, 2),
     })?;
     let mut functions = Items::new(alloc);
-    functions.push(Function {
-        name: Text::copy_of(alloc, b"m")?,
-        counted: true,
-        parameters: 0,
-        slots: 3,
-        result: true,
-        code: code(alloc)?,
-        regions: Items::new(alloc),
-    })?;
+    functions.push(body(alloc)?)?;
+    functions.push(hook(alloc)?)?;
     let mut assertions = Items::new(alloc);
     assertions.push(Assertion {
         function: 0,
@@ -71,7 +109,7 @@ fn sample(alloc: Global) -> Result<Image, NoMemory>
         functions,
         assertions,
         main: 0,
-        handler: 0,
+        handler: 2,
     })
 }
 
@@ -82,14 +120,18 @@ fn an_image_has_the_bytes_of_the_format(rt: HostRuntime) -> Result<(), Fail> {
     let bytes = encode(alloc, valid.image())?;
     let want: &[u8] = b"CXIM\x01\
         \x00\x00\x00\x01\x00\x00\x00\x01a\
-        \x00\x00\x00\x01\x00\x00\x00\x01E\x00\x00\x01\x00\x00\x00\x00\x01\
+        \x00\x00\x00\x01\x00\x00\x00\x01E\x00\x00\x01\x00\x00\x00\x00\x02\
         \x00\x00\x00\x01\x00\x00\x00\x01g\x00\x00\x00\x00\x01\x00\x00\x00\x02\
-        \x00\x00\x00\x01\x00\x00\x00\x01m\x01\x00\x00\x00\x00\x00\x00\x00\x03\x01\
+        \x00\x00\x00\x02\x00\x00\x00\x01m\x01\x00\x00\x00\x00\x00\x00\x00\x03\x01\
         \x00\x00\x00\x02\x01\x00\x00\x00\x00\x00\x00\x01\x02\x27\x00\x00\x00\x00\x00\x00\x00\x00\
+        \x00\x00\x00\x01\x00\x00\x00\x01\x00\x00\x00\x02\x02\x00\x00\x00\x01\
+        \x00\x00\x00\x00\x00\x00\x00\x00\
+        \x00\x00\x00\x01h\x00\x00\x00\x00\x01\x00\x00\x00\x01\x00\
+        \x00\x00\x00\x01\x27\x00\x00\x00\x00\x00\x00\x00\x00\
         \x00\x00\x00\x00\
         \x00\x00\x00\x01\x00\x00\x00\x00\x03\x00\x00\x00\x01\x00\x00\x00\x00\x00\x00\x00\x00\
         \x00\x00\x00\x04\x00\x00\x00\x05\
-        \x00\x00\x00\x00\x00\x00\x00\x00";
+        \x00\x00\x00\x00\x00\x00\x00\x02";
     assert!(rt; bytes.bytes() == want);
     Ok(())
 }
