@@ -1,0 +1,5 @@
+mod rows
+mod Asked
+mod Marks
+mod Functions
+mod Valid
