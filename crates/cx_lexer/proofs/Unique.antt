@@ -317,6 +317,16 @@ fault_case rest at fault (Begins.long_name {n} x e) =
     let long : ltb longest_name (length (take n rest)) ≡ true = lt-ltb _ _ (let is = length-take-le n rest x.within in omega arith) in
     subst (Case rest at) (cond-true _ _ _ long) (Case.lexeme (lexeme_sort Name rest n x) x)
 
+stands_case : (rest : List ℕ) (at : ℕ) (piece : Piece) → Stands rest at piece → Case rest at piece
+unfolding Stands
+stands_case rest at (pieces.Gap n) one = gap_case rest at n one
+stands_case rest at (pieces.Token kind n) one = token_case rest at kind n one.0 one.1
+stands_case rest at (pieces.Fault fault) one = fault_case rest at fault one
+
+-- one thing stands at a place
+pub one_piece : (rest : List ℕ) (at : ℕ) (a b : Piece) → Stands rest at a → Stands rest at b → a ≡ b
+one_piece rest at a b first second = unique rest at a b (stands_case rest at a first) (stands_case rest at b second)
+
 -- a way from one place of a text to another, in steps
 abbrev token_of : TokenKind → ℕ → ℕ → Token
 token_of kind start end = record { kind = kind; start = start; end = end }
@@ -402,7 +412,7 @@ stuck_at_fault text p fault cause = record {
   token = λ kind n one good. token_no_fault kind n fault (unique (drop p text) p _ _ (token_case (drop p text) p kind n one good) (fault_case (drop p text) p fault cause));
 }
 
-no_cause_at_end : (at : ℕ) (fault : LexFault) → Begins [] at fault → ⊥
+pub no_cause_at_end : (at : ℕ) (fault : LexFault) → Begins [] at fault → ⊥
 unfolding begins_line_comment begins_block_comment
 no_cause_at_end at fault (Begins.no_token e) = e
 no_cause_at_end at fault (Begins.spliced_comment e f) = false≢true e

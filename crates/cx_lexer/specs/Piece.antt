@@ -1,4 +1,4 @@
--- What stands at the front of the rest of a text, for the scanner's private functions.
+-- What stands at the front of the rest of a text, at a place of the text: one thing, as one reading of a text has it.
 use Rattle.std.specs.Prelude.{ℕ, List, take, drop, IsFalse}
 use Rattle.cx_lexer.specs.declared.piece.Piece.{Piece}
 use Rattle.cx_lexer.specs.declared.piece.Piece.TheVariants as pieces

@@ -6,7 +6,8 @@ ghost use Rattle.cx_lexer.specs.Scan.{next_seen, is_spliced, hides_from};
 use crate::bytes::is_splice_blank;
 use crate::seen::Seen;
 
-/// How many bytes stand before the end of the line.
+/// How many bytes of the rest of a text stand before the end of its line, which is the next newline or the text's end.
+/// Takes no memory. Source: [lex.phases].
 pub fn line_length(rest: &[u8]) -> usize
     ensures { result ≡ line_length rest.now }
 {
@@ -35,7 +36,8 @@ fn ends_in_backslash(line: &[u8]) -> bool
     ends
 }
 
-/// Whether the line, which has this length, ends in a line splice.
+/// Whether the first line of the rest of a text, which has this length before its newline, ends in a line splice: a
+/// backslash, then blanks, then the newline. Takes no memory. Source: [lex.phases].
 pub fn is_spliced_line(rest: &[u8], length: usize) -> bool
     requires { length ≡ line_length rest.now }
     ensures { result ≡ is_spliced_line rest.now }
@@ -98,6 +100,7 @@ pub fn hides_end(body: &[u8]) -> bool
     false
 }
 
+/// Whether a `//` comment begins at the first byte of the rest of a text. Takes no memory. Source: [lex.comment].
 #[tactic(auto, unfolding(crate::specs::Comment::begins_line_comment))]
 pub fn begins_line_comment(rest: &[u8]) -> bool
     ensures { result ≡ begins_line_comment rest.now }

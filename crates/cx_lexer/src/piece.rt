@@ -15,17 +15,24 @@ use crate::punct::punct_length;
 use crate::quoted::{char_length, closed_text_length};
 use cx_syntax::TokenKind;
 
-/// What stands at a place of a text.
+/// What stands at a place of a text ([lex.pptoken]): one thing, since the longest token counts and no token begins where
+/// a comment does.
 #[derive(Clone, Copy, Debug)]
 pub enum Piece {
-    /// A blank or a comment of so many bytes.
+    /// A blank or a comment of so many bytes, one or more.
     Gap(usize),
-    /// A token of this class, of so many bytes.
+    /// A token of this class, of so many bytes, one or more.
     Token(TokenKind, usize),
+    /// The lexical fault whose cause begins at the place. Its own place may lie behind.
     Fault(LexFault),
 }
 
-/// What stands at a place, with the rest of the text from there on.
+/// What stands at a place of a text. Takes no memory, so that want of memory is never the fault.
+///
+/// Arguments: the rest of the text from the place on, which isn't empty; the place, in bytes from the text's first one,
+/// with fewer than 2^32 bytes before the text's end.
+///
+/// Source: [lex.pptoken], narrowed to the tokens of the language.
 pub fn piece_at(rest: &[u8], at: u32) -> Piece
     requires some { 0 < length rest.now }
     requires fits { at + length rest.now < 2 ^ 32 }
