@@ -1,0 +1,14 @@
+pub mod Reaching
+pub mod Forms
+pub mod Stretches
+pub mod Opening
+pub mod Named
+pub mod Sources
+pub mod Soundness
+pub mod Refusals
+pub mod OneReading
+pub mod Including
+pub mod Takings
+pub mod Whole
+pub mod OneAssembly
+pub mod OneList

@@ -1,0 +1,10 @@
+pub mod Place
+pub mod Directive
+pub mod Parts
+pub mod Stretch
+pub mod Unit
+pub mod Fault
+pub mod Assembled
+pub mod OpenTokens
+pub mod Counting
+pub mod Taking
