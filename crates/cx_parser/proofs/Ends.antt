@@ -156,7 +156,7 @@ still_head k vs x w y h = by (step k vs (Some x)) h
     by (eats j us) h = let g = ap left_of h in absurd (omega (arith, g))
 
 -- a shaped unit that spells the list is where the machine stands
-ended : (ts : Spots) (n : ℕ) (k : List Symbol) (vs : Values) (w : Spots) → exec n (start ts) ≡ config k vs w → next (config k vs w) ≡ config k vs w → (u : UnitTree) → ShapedUnit u → spell u ≡ ts → config k vs w ≡ config [] (unit_val u ∷ []) []
+pub ended : (ts : Spots) (n : ℕ) (k : List Symbol) (vs : Values) (w : Spots) → exec n (start ts) ≡ config k vs w → next (config k vs w) ≡ config k vs w → (u : UnitTree) → ShapedUnit u → spell u ≡ ts → config k vs w ≡ config [] (unit_val u ∷ []) []
 ended ts n k vs w h i u su q =
     let Q : Spots → Type 0 = λ x. Takes (start x) (config [] (unit_val u ∷ []) []) in
     let t : Takes (start ts) (config [] (unit_val u ∷ []) []) = subst Q q (accepts u su) in

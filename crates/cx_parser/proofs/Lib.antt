@@ -20,3 +20,4 @@ pub mod Complete
 pub mod Ends
 pub mod Waits
 pub mod Reached
+pub mod OneReading

@@ -1,4 +1,5 @@
 pub mod Tree
+pub mod View
 pub mod Same
 pub mod Spell
 pub mod Shaped

@@ -5,6 +5,7 @@ mod items;
 pub mod mark;
 mod no_memory;
 mod token;
+pub mod tree;
 
 pub use items::Items;
 pub use mark::{Mark, Punct, Word};
