@@ -1,0 +1,9 @@
+pub mod Flow
+pub mod Denoted
+pub mod Opened
+pub mod ExpressionSteps
+pub mod StatementSteps
+pub mod ObjectSteps
+pub mod CallSteps
+pub mod FrameSteps
+pub mod Runs
