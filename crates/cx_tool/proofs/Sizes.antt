@@ -1,36 +1,24 @@
--- How large a unit is that is read from a small text.
-use Rattle.std.proofs.Common.{◌≡◌, ℕ, suc, ◌+◌, ◌-◌, ◌*◌, ◌≤◌, List, [], ◌∷◌, ◌++◌, length, drop, map, All, ap, arith, length-append, length-take, codes}
-use Rattle.std.specs.List.{flat_map, sum_by, join_with_byte, AllByRecursion}
+-- How large a unit is that is read from few tokens.
+use Rattle.std.proofs.Common.{◌≡◌, ℕ, zero, suc, ◌+◌, ◌-◌, ◌*◌, ◌<◌, ◌≤◌, List, [], ◌∷◌, ◌++◌, ◌==◌, length, map, Bool, true, false, cond, inl, inr, All, refl, sym, ap, ◌∙◌, arith, length-append, codes, lit≤, ne_eqb, eq-eqb, eqb-true}
+use Rattle.std.specs.Prelude.{nat_le, slice_get, unwrap_or}
+use Rattle.std.specs.Option.{option_map}
+use Rattle.std.specs.List.{flat_map, join_with_byte, AllByRecursion}
+use Rattle.std.proofs.lemmas.Bool.{cases_Bool, cases_lt, and_parts, true≢false, leb-true}
+use Rattle.std.proofs.lemmas.List.{length-map}
 use Rattle.std.proofs.lemmas.List.Elements.{All-from_recursion}
-use Rattle.std.proofs.lemmas.List.Sums.{sum_by-cons, sum_by-append}
-use Rattle.cx_tool.specs.declared.lexer.Token.{Token}
+use Rattle.cx_includes.specs.declared.assembled.Assembled.{Assembled}
+use Rattle.cx_includes.specs.declared.assembled.Placed.{Placed}
+use Rattle.cx_includes.specs.declared.assembled.SourceFile.{SourceFile}
+use Rattle.cx_includes.specs.Assembled.{bytes_of_placed}
 use Rattle.cx_tool.specs.declared.tree.Expr.{Expr}
 use Rattle.cx_tool.specs.declared.tree.Expr.TheVariants.{Number, Paren', Less'}
 use Rattle.cx_tool.specs.declared.tree.Check.{Check}
 use Rattle.cx_tool.specs.declared.tree.SourceUnit.{SourceUnit}
-use Rattle.cx_tool.specs.Tokens.{bytes_of, SpellsFrom}
-use Rattle.cx_tool.specs.Grammar.{spell, spell_check, spell_unit, IsShaped, IsUnitOf}
+use Rattle.cx_tool.specs.Literal.{is_digit, is_digits, is_decimal, value_behind, decimal_value}
+use Rattle.cx_tool.specs.Grammar.{spell, spell_check, spell_unit, IsShaped, IsUnitOf, Place, place_of_check, place_of_token, assertion_words}
 use Rattle.cx_tool.specs.Ints.{HasInts}
 use Rattle.cx_tool.specs.Code.{instruction, expr_code, check_code, checks_code, value_code, IsSmall, IsSmallCheck}
 use Rattle.cx_tool.proofs.Emitted.{length_check}
-
--- how many bytes words have
-abbrev total : List (List ℕ) → ℕ
-total words = sum_by length words
-
--- the tokens of a text have at most its bytes
-tokens_within : (text : List ℕ) (place : ℕ) (tokens : List Token) → SpellsFrom text place tokens → place ≤ length text → place + total (map (bytes_of text) tokens) ≤ length text
-tokens_within text place [] spelled le = omega arith
-tokens_within text place (t ∷ ts) (first, rest) le =
-    let later = tokens_within text t.end ts rest first.within in
-    let sum = sum_by-cons length (bytes_of text t) (map (bytes_of text) ts) in
-    let size : length (bytes_of text t) ≤ t.end - t.start = omega (arith, length-take (t.end - t.start) (drop t.start text)) in
-    omega (arith, first.order, first.some)
-
--- and there are at most as many
-few_tokens : (text : List ℕ) (place : ℕ) (tokens : List Token) → SpellsFrom text place tokens → place ≤ length text → place + length (map (bytes_of text) tokens) ≤ length text
-few_tokens text place [] spelled le = omega arith
-few_tokens text place (t ∷ ts) (first, rest) le = omega (arith, few_tokens text t.end ts rest first.within, first.order, first.some)
 
 -- ---- an expression
 
@@ -46,10 +34,109 @@ short_code (Less' p a q b) =
     let last = instruction 30 0 0 ∷ [] in
     omega (arith, short_code a, short_code b, length-append (spell a) (codes "<" ∷ spell b), length-append (expr_code a) (expr_code b ++ last), length-append (expr_code b) last)
 
-short_join : (words : List (List ℕ)) → length (join_with_byte 32 words) ≤ total words + length words
-short_join [] = omega arith
-short_join (x ∷ []) = omega (arith, sum_by-cons length x [])
-short_join (x ∷ y ∷ xs) = omega (arith, short_join (y ∷ xs), sum_by-cons length x (y ∷ xs), length-append x (32 ∷ join_with_byte 32 (y ∷ xs)))
+-- ---- a literal
+
+-- a number that is doubled so often
+twice : ℕ → ℕ → ℕ
+twice zero v = v
+twice (suc k) v = twice k (v + v)
+
+twice_more : (k l u v : ℕ) → k ≤ l → u ≤ v → twice k u ≤ twice l v
+unfolding twice
+twice_more zero zero u v le small = small
+twice_more zero (suc l) u v le small = twice_more zero l u (v + v) (omega arith) (omega arith)
+twice_more (suc k) zero u v le small = absurd (omega arith)
+twice_more (suc k) (suc l) u v le small = twice_more k l (u + u) (v + v) (omega arith) (omega arith)
+
+-- a digit behind others, and one behind a `'`
+digit_step : (value next len : ℕ) → value + value + (value + value) ≤ next → twice (suc len) value ≤ twice len next
+unfolding twice
+digit_step value next len le = twice_more len len (value + value) next (omega arith) (omega arith)
+
+digit_steps : (value next len : ℕ) → value + value + (value + value) ≤ next → twice (suc (suc len)) value ≤ twice len next
+unfolding twice
+digit_steps value next len le = twice_more len len (value + value + (value + value)) next (omega arith) le
+
+twice_none : (value : ℕ) → twice 0 value ≡ value
+unfolding twice
+twice_none value = refl
+
+no_quote : (b : ℕ) → is_digit b ≡ true → (b == 39) ≡ false
+no_quote b digit = ne_eqb b 39 (λ e. omega (arith, leb-true 48 b (and_parts (nat_le 48 b) (nat_le b 57) digit).0, e))
+
+-- what a digit makes of the value
+with_digit : (value b : ℕ) (bytes : List ℕ) → is_digit b ≡ true → value_behind value (b ∷ bytes) ≡ value_behind (value * 10 + (b - 48)) bytes
+with_digit value b bytes digit = ap (λ (own : Bool). value_behind (cond own value (value * 10 + (b - 48))) bytes) (no_quote b digit)
+
+with_quote : (value b : ℕ) (bytes : List ℕ) → (b == 39) ≡ true → value_behind value (b ∷ bytes) ≡ value_behind value bytes
+with_quote value b bytes quote = ap (λ (own : Bool). value_behind (cond own value (value * 10 + (b - 48))) bytes) quote
+
+-- each byte of a literal at least doubles the value of what stands before it; a `'` leaves this to the digit behind it
+abbrev Doubles : Bool → ℕ → List ℕ → Type 0
+Doubles true value bytes = twice (suc (length bytes)) value ≤ value_behind value bytes
+Doubles false value bytes = twice (length bytes) value ≤ value_behind value bytes
+
+doubles : (opened : Bool) (value : ℕ) (bytes : List ℕ) → is_digits opened bytes ≡ true → Doubles opened value bytes
+doubles true value [] h = cc
+doubles false value [] h = omega (arith, twice_none value)
+doubles true value (b ∷ bs) h =
+    elim (cases_Bool (is_digit b)) [
+      | inl digit ↦ let next = value * 10 + (b - 48) in omega (arith, digit_steps value next (length bs) (omega arith), doubles false next bs (rw digit at h), with_digit value b bs digit)
+      | inr none ↦ absurd (true≢false (sym (rw none at h)))
+    ]
+doubles false value (b ∷ bs) h =
+    elim (cases_Bool (is_digit b)) [
+      | inl digit ↦ let next = value * 10 + (b - 48) in omega (arith, digit_step value next (length bs) (omega arith), doubles false next bs (rw digit at h), with_digit value b bs digit)
+      | inr none ↦ let parts = and_parts (b == 39) (is_digits true bs) (rw none at h) in omega (arith, doubles true value bs parts.1, with_quote value b bs parts.0)
+    ]
+
+above : (b : ℕ) → 48 ≤ b → (b == 48) ≡ false → 48 < b
+above b le other = elim (cases_lt 48 b) [ inl lt ↦ lt | inr ge ↦ absurd (true≢false (sym (eq-eqb b 48 (omega arith)) ∙ other)) ]
+
+-- the first digit is no zero, or the only byte
+first_digit : (b : ℕ) (bs : List ℕ) → (b == 48) ≡ false → is_digits true (b ∷ bs) ≡ true → twice (length bs) 1 ≤ decimal_value (b ∷ bs)
+first_digit b bs other h =
+    elim (cases_Bool (is_digit b)) [
+      | inl digit ↦
+          let value = 0 * 10 + (b - 48) in
+          let least = leb-true 48 b (and_parts (nat_le 48 b) (nat_le b 57) digit).0 in
+          let more : 48 < b = above b least other in
+          omega (arith, twice_more (length bs) (length bs) 1 value (omega arith) (omega arith), doubles false value bs (rw digit at h), with_digit 0 b bs digit)
+      | inr none ↦ absurd (true≢false (sym (rw none at h)))
+    ]
+
+-- a literal of type int has at most 31 bytes
+short_literal : (bytes : List ℕ) → is_decimal bytes ≡ true → decimal_value bytes ≤ 2147483647 → length bytes ≤ 31
+unfolding twice
+short_literal [] decimal small = omega arith
+short_literal (b ∷ bs) decimal small =
+    elim (cases_Bool (b == 48)) [
+      | inl null ↦ let one : length bs ≡ 0 = eqb-true (length bs) 0 (rw null at decimal) in omega (arith, one)
+      | inr other ↦
+          elim (cases_lt (length bs) 31) [
+            | inl lt ↦ omega arith
+            | inr ge ↦
+                let large : twice 31 1 ≤ twice (length bs) 1 = twice_more 31 (length bs) 1 1 ge (omega arith) in
+                absurd (omega (arith, large, first_digit b bs other (rw other at decimal)))
+          ]
+    ]
+
+-- ---- comments
+
+joined : (v w : List (List ℕ)) → AllByRecursion (λ (word : List ℕ). length word ≤ 31) v → AllByRecursion (λ (word : List ℕ). length word ≤ 31) w → AllByRecursion (λ (word : List ℕ). length word ≤ 31) (v ++ w)
+joined [] w p q = q
+joined (x ∷ v) w p q = (p.0, joined v w p.1 q)
+
+-- each token of an expression has at most so many bytes
+short_words : (e : Expr) → IsShaped e → AllByRecursion (λ (word : List ℕ). length word ≤ 31) (spell e)
+short_words (Number n x) shaped = (short_literal x shaped.0 (omega (arith, shaped.1, shaped.2)), tt)
+short_words (Paren' p e) shaped = (lit≤ tt, joined (spell e) (codes ")" ∷ []) (short_words e shaped) (lit≤ tt, tt))
+short_words (Less' p a q b) shaped = joined (spell a) (codes "<" ∷ spell b) (short_words a shaped.0) (lit≤ tt, short_words b shaped.1)
+
+short_join : (words : List (List ℕ)) → AllByRecursion (λ (word : List ℕ). length word ≤ 31) words → length (join_with_byte 32 words) ≤ 32 * length words
+short_join [] each = omega arith
+short_join (x ∷ []) each = omega (arith, each.0)
+short_join (x ∷ y ∷ xs) each = omega (arith, each.0, short_join (y ∷ xs) each.1, length-append x (32 ∷ join_with_byte 32 (y ∷ xs)))
 
 some_words : (e : Expr) → 1 ≤ length (spell e)
 some_words (Number n spelling) = omega arith
@@ -71,24 +158,18 @@ few_checks (c ∷ cs) = omega (arith, few_checks cs, length-append (spell_check 
 length_words : (check : Check) → length (spell_check check) ≡ 4 + length (spell check.predicate)
 length_words check = omega (arith, length-append (spell check.predicate) (codes ")" ∷ codes ";" ∷ []))
 
-total_words : (check : Check) → total (spell check.predicate) ≤ total (spell_check check)
-total_words check =
-    let end = codes ")" ∷ codes ";" ∷ [] in
-    omega (arith, sum_by-cons length (codes "contract_assert") (codes "(" ∷ (spell check.predicate ++ end)), sum_by-cons length (codes "(") (spell check.predicate ++ end), sum_by-append length (spell check.predicate) end)
-
-small_checks : (checks : List Check) → All (λ (check : Check). IsShaped check.predicate) checks → length (flat_map spell_check checks) ≤ 4096 → total (flat_map spell_check checks) ≤ 4096 → AllByRecursion IsSmallCheck checks
-small_checks [] shaped few short = tt
-small_checks (c ∷ cs) shaped few short =
+small_checks : (checks : List Check) → All (λ (check : Check). IsShaped check.predicate) checks → AllByRecursion (λ (check : Check). length check.file ≤ 1024) checks → length (flat_map spell_check checks) ≤ 4096 → AllByRecursion IsSmallCheck checks
+small_checks [] shaped files few = tt
+small_checks (c ∷ cs) shaped files few =
     let words = length-append (spell_check c) (flat_map spell_check cs) in
-    let bytes = sum_by-append length (spell_check c) (flat_map spell_check cs) in
-    let here = length_words c in
-    let within = total_words c in (
+    let here = length_words c in (
       record {
         ints = has_ints c.predicate (shaped 0 c (omega arith));
         predicate = omega (arith, short_code c.predicate);
-        comment = omega (arith, short_join (spell c.predicate));
+        comment = omega (arith, short_join (spell c.predicate) (short_words c.predicate (shaped 0 c (omega arith))));
+        file = files.0;
       },
-      small_checks cs (λ k d lt. shaped (suc k) d (omega arith)) (omega arith) (omega arith),
+      small_checks cs (λ k d lt. shaped (suc k) d (omega arith)) files.1 (omega arith),
     )
 
 -- what a unit spells is its checks, eight words and its value
@@ -98,22 +179,32 @@ length_unit unit =
     let rest = codes "return" ∷ (spell unit.value ++ end) in
     omega (arith, length-append (flat_map spell_check unit.checks) rest, length-append (spell unit.value) end)
 
-total_unit : (unit : SourceUnit) → total (flat_map spell_check unit.checks) ≤ total (spell_unit unit)
-total_unit unit =
-    let rest = codes "return" ∷ (spell unit.value ++ codes ";" ∷ codes "}" ∷ []) in
-    let begin = codes "int" ∷ codes "main" ∷ codes "(" ∷ codes ")" ∷ codes "{" ∷ [] in
-    omega (arith, sum_by-append length (begin ++ flat_map spell_check unit.checks) rest, sum_by-append length begin (flat_map spell_check unit.checks))
+-- ---- names of files
 
-pub is_small : (text : List ℕ) (unit : SourceUnit) → length text ≤ 4096 → IsUnitOf text unit → IsSmall unit
-is_small text unit small is =
-    let few : length (spell_unit unit) ≤ 4096 = omega (arith, few_tokens text 0 is.tokens is.spelled (omega arith), ap length is.tree) in
-    let short : total (spell_unit unit) ≤ 4096 = omega (arith, tokens_within text 0 is.tokens is.spelled (omega arith), ap total is.tree) in
+-- the file of a token has a short name
+short_name : (files : List SourceFile) (file : ℕ) → All (λ (source : SourceFile). length source.name ≤ 1024) files → length (unwrap_or (option_map (λ (source : SourceFile). source.name) (slice_get files file)) []) ≤ 1024
+short_name [] file short = omega arith
+short_name (x ∷ xs) zero short = short 0 x (omega arith)
+short_name (x ∷ xs) (suc file) short = short_name xs file (λ k d lt. short (suc k) d (omega arith))
+
+-- so have those of assertions
+short_files : (list : Assembled) (checks : List Check) (words : List Placed) → All (λ (source : SourceFile). length source.name ≤ 1024) list.files → map place_of_check checks ≡ map (place_of_token list) words
+    → AllByRecursion (λ (check : Check). length check.file ≤ 1024) checks
+short_files list [] words short e = tt
+short_files list (c ∷ cs) [] short e = absurd cc
+short_files list (c ∷ cs) (w ∷ ws) short e =
+    let here : place_of_check c ≡ place_of_token list w = cc in
+    let rest : map place_of_check cs ≡ map (place_of_token list) ws = cc in
+    (omega (arith, ap (λ (p : Place). length p.file) here, short_name list.files w.file short), short_files list cs ws short rest)
+
+pub is_small : (list : Assembled) (unit : SourceUnit) → length list.placed ≤ 4096 → All (λ (source : SourceFile). length source.name ≤ 1024) list.files → IsUnitOf list unit → IsSmall unit
+is_small list unit few short is =
+    let count : length (spell_unit unit) ≤ 4096 = omega (arith, ap length is.spelled.tree, length-map list.placed (bytes_of_placed list)) in
     let words = length_unit unit in
-    let bytes = total_unit unit in
     record {
       checks = omega (arith, few_checks unit.checks);
-      each_check = All-from_recursion IsSmallCheck unit.checks (small_checks unit.checks is.checks (omega arith) (omega arith));
-      ints = has_ints unit.value is.value;
+      each_check = All-from_recursion IsSmallCheck unit.checks (small_checks unit.checks is.spelled.checks (short_files list unit.checks (assertion_words list) short is.places) (omega arith));
+      ints = has_ints unit.value is.spelled.value;
       value = omega (arith, short_code unit.value);
       code = omega (arith, short_checks 0 0 unit.checks, short_code unit.value, length-append (checks_code 0 0 unit.checks) (value_code unit.value), length-append (expr_code unit.value) (instruction 39 0 0 ∷ []));
     }

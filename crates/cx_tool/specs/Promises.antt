@@ -1,15 +1,25 @@
 -- What the program's one public call promises, each promise with one sentence. What it rests on is this project's own.
-use Rattle.std.specs.Prelude.{◌≡◌, ◌≢◌, ℕ, List, ◌++◌, Option, Some, None}
+use Rattle.std.specs.Prelude.{◌≡◌, ◌≢◌, ◌⊎◌, ℕ, ◌≤◌, List, ◌++◌, length, Option, Some, None}
 use Rattle.std.specs.Io.KnownBytes.{Appends}
 use Rattle.cx_outside.specs.Fault.{Rose, NoneFailed}
 use Rattle.cx_outside.specs.Folder.{Folder, WhereTold, BothTold, ChangesOnly}
+use Rattle.cx_outside.specs.declared.limit.Limit.{Limit}
+use Rattle.cx_outside.specs.declared.limit.Limit.TheVariants as limits
 use Rattle.cx_code.specs.declared.run.Ending.TheVariants as endings
+use Rattle.cx_includes.specs.declared.assembled.Assembled.{Assembled}
+use Rattle.cx_includes.specs.declared.assembly.AssembleFault.{AssembleFault}
+use Rattle.cx_includes.specs.Fault.{IsFirstFault}
+use Rattle.cx_includes.specs.Assembled.{IsListOf}
 use Rattle.cx_tool.specs.declared.answer.Answer.TheVariants as answers
 use Rattle.cx_tool.specs.declared.answer.Stream.TheVariants as streams
 use Rattle.cx_tool.specs.declared.answer.Report.{Report}
-use Rattle.cx_tool.specs.Words.{named, NamesUnit}
+use Rattle.cx_tool.specs.declared.answer.Refusal.{Refusal}
+use Rattle.cx_tool.specs.declared.tree.SourceUnit.{SourceUnit}
+use Rattle.cx_tool.specs.Words.{named, NamesUnit, OfNames, HasLongName}
+use Rattle.cx_tool.specs.Grammar.{IsSpelling, IsOutside, words_of, most_tokens}
+use Rattle.cx_tool.specs.Faults.{fault_answer, HasFault}
 use Rattle.cx_tool.specs.Closing.{closing_text, status_of}
-use Rattle.cx_tool.specs.Report.{not_started, Comes, IsEarly, HasClosingLine, IsRan, HasBegun, OfNames, TellsMissing, TellsHeld}
+use Rattle.cx_tool.specs.Report.{not_started, Comes, IsEarly, HasClosingLine, IsRan, HasBegun, IsUnbuilt}
 
 -- what the files and the error sink told before and after a call, and their counts of faults
 pub record Seen : Type 0 where
@@ -44,12 +54,34 @@ pub record Promises (words : List (List ℕ)) (seen : Seen) (report : Report) : 
   pub usage_has_cause : report.answer ≡ answers.Usage → named words ≡ None
   -- Where they aren't, and no call fails, Usage is answered, or want of memory.
   pub usage_comes : named words ≡ None → ErrHeld seen → Comes report.answer answers.Usage
-  -- NoFile is answered only with the unit's name, where the files tell that they lack it, or tell nothing and a call failed.
-  pub no_file_has_cause : (name : List ℕ) → report.answer ≡ answers.NoFile name → NamesUnit words name × WhereTold seen.files (λ folder. folder name ≡ None) (FilesFailed seen)
-  -- Where they tell that they lack it, and no call fails, NoFile is answered, or want of memory.
-  pub no_file_comes : (unit : List ℕ) → NamesUnit words unit → TellsMissing seen.files unit → FilesHeld seen → ErrHeld seen → Comes report.answer (answers.NoFile unit)
-  -- Unbuilt is answered only with the unit's name, where the files that tell something hold such a file.
-  pub unbuilt_has_cause : (name : List ℕ) → report.answer ≡ answers.Unbuilt name → NamesUnit words name × TellsHeld seen.files name
+  -- Where the words are in that form and one of the two names is too long, TooMany is answered with the length of the
+  -- first such name, or want of memory, while no call fails.
+  pub long_name_comes : (count : ℕ) → HasLongName words count → ErrHeld seen → Comes report.answer (answers.TooMany limits.Name count)
+  -- Where the files tell a first fault of the unit's files, lines and tokens, and no call fails, its answer is given, or
+  -- want of memory: NoFile, UnitRefused or TooMany.
+  pub fault_comes : (unit : List ℕ) (folder : Folder) (fault : AssembleFault) → NamesUnit words unit → seen.files ≡ Some folder → IsFirstFault folder unit fault → FilesHeld seen → ErrHeld seen
+      → Comes report.answer (fault_answer unit fault)
+  -- NoFile is answered only with the name of the missing file, the unit's or an included one, where that is the unit's
+  -- first fault, or where the files tell nothing and a call failed.
+  pub no_file_has_cause : (name : List ℕ) → report.answer ≡ answers.NoFile name → OfNames words (λ image unit. HasFault seen.files (FilesFailed seen) unit (answers.NoFile name))
+  -- Where the files tell something, they lack that name.
+  pub no_file_is_missing : (name : List ℕ) → report.answer ≡ answers.NoFile name → WhereTold seen.files (λ folder. folder name ≡ None) (FilesFailed seen)
+  -- UnitRefused is answered only with the unit's name, and is the refusal of the unit's first fault; where the files tell
+  -- nothing, of the first fault over some files.
+  pub unit_refused_has_cause : (refusal : Refusal) → report.answer ≡ answers.UnitRefused refusal → NamesUnit words refusal.unit × HasFault seen.files (FilesFailed seen) refusal.unit (answers.UnitRefused refusal)
+  -- TooMany is answered only with the length of a name in the words, or for the unit's first fault: the bytes of its files,
+  -- or a name in them.
+  pub too_many_has_cause : (limit : Limit) (count : ℕ) → report.answer ≡ answers.TooMany limit count
+      → ((limit ≡ limits.Name) × HasLongName words count) ⊎ OfNames words (λ image unit. HasFault seen.files (FilesFailed seen) unit (answers.TooMany limit count))
+  -- Unbuilt is answered only with the unit's name, where it has an assembled list, which no tree of the language that is
+  -- built so far spells, or which has too many tokens.
+  pub unbuilt_has_cause : (name : List ℕ) → report.answer ≡ answers.Unbuilt name → NamesUnit words name × IsUnbuilt seen.files name
+  -- Where the files tell such a list, and no call fails, Unbuilt is answered, or want of memory.
+  pub unbuilt_comes : (unit : List ℕ) (folder : Folder) (list : Assembled) → NamesUnit words unit → seen.files ≡ Some folder → IsListOf folder unit list → IsOutside list → FilesHeld seen → ErrHeld seen
+      → Comes report.answer (answers.Unbuilt unit)
+  -- Where they tell a list that isn't so, and no call fails, the unit's program runs, or memory is wanted.
+  pub ran_comes : (unit : List ℕ) (folder : Folder) (list : Assembled) (tree : SourceUnit) → NamesUnit words unit → seen.files ≡ Some folder → IsListOf folder unit list → IsSpelling (words_of list) tree
+      → length list.placed ≤ most_tokens → FilesHeld seen → ErrHeld seen → Comes report.answer answers.Ran
   -- FileFault is answered only where a call on the files failed.
   pub file_fault_has_cause : report.answer ≡ answers.FileFault → FilesFailed seen
   -- WriteFault(Err) is answered only where a call on the error sink failed.
@@ -58,7 +90,7 @@ pub record Promises (words : List (List ℕ)) (seen : Seen) (report : Report) : 
   pub no_read_fault : report.answer ≢ answers.ReadFault
   -- Nothing is written to the output, so WriteFault(Out) is never answered.
   pub no_output_fault : report.answer ≢ answers.WriteFault streams.Out
-  -- After Ran the files hold under the image's name the bytes of a valid image that is faithful to the unit's text, no
+  -- After Ran the files hold under the image's name the bytes of a valid image that is faithful to the unit's assembled list, no
   -- other name changed, the run is the machine's run of that image, and the error sink took the default handler's lines
   -- and then the closing line.
   pub ran : report.answer ≡ answers.Ran → OfNames words (λ image unit. IsRan image unit report.run seen.files seen.files' seen.err seen.err' (closing_text answers.Ran report.run))

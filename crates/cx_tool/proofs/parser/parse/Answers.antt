@@ -1,12 +1,11 @@
 use Rattle.std.proofs.lemmas.Result.{IfOk-weaker}
-use Rattle.cx_tool.specs.Grammar.{IsUnitOf}
-use Rattle.cx_tool.specs.Reading.{ReadsUnit}
-use Rattle.cx_tool.proofs.Read.{unit_of}
+use Rattle.cx_tool.specs.declared.tree.SourceUnit.{SourceUnit}
+use Rattle.cx_tool.specs.Grammar.{IsUnitOf, IsSpelling, words_of}
+use Rattle.cx_tool.specs.Same.{SameUnit}
+use Rattle.cx_tool.proofs.Units.{one_unit}
 use Rattle.cx_tool.proofs.parser.parse.Goals as goal
 
-pub returns : goal.returns
-returns c =
-    let text = c.args.text.now in
-    let tokens = c.in_ok-tokens.tokens.items in
-    let read = rw c.deref.ensures.value at c.read_unit.ensures in
-    IfOk-weaker c.read_unit.result (ReadsUnit text tokens) (IsUnitOf text) (λ unit h. unit_of text tokens unit c.in_ok-tokens.ensures.spelled c.in_ok-tokens.ensures.placed h) read
+pub returns-clause-only : goal.returns-clause-only
+returns-clause-only c =
+    let list = c.args.list.now in
+    IfOk-weaker c.read_unit.result (IsUnitOf list) (λ unit. (other : SourceUnit) → IsSpelling (words_of list) other → SameUnit unit other) (λ unit is other that. one_unit (words_of list) unit other is.spelled that) c.read_unit.ensures.unit

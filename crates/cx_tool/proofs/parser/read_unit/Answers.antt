@@ -1,29 +1,71 @@
-use Rattle.std.proofs.Common.{◌≡◌, ◌+◌, ℕ, length, map, codes, refl, subst, arith}
-use Rattle.cx_tool.specs.declared.lexer.Kind.TheVariants as kinds
-use Rattle.cx_tool.specs.declared.tree.Check.{Check}
-use Rattle.cx_tool.specs.Grammar.{spell_unit}
-use Rattle.cx_tool.specs.Reading.{Reads}
-use Rattle.cx_tool.proofs.Read.{then, then_other, one_of}
+use Rattle.std.proofs.Common.{◌≡◌, ◌++◌, ◌∷◌, [], List, ℕ, codes, sym, ap, ◌∙◌, refl, arith, Err}
+use Rattle.cx_tool.specs.declared.kinds.Kind.TheVariants as kinds
+use Rattle.cx_tool.specs.declared.parser.Refused.TheVariants as refusals
+use Rattle.cx_tool.specs.Grammar.{spell}
+use Rattle.cx_tool.specs.Reading.{words_from}
+use Rattle.cx_tool.proofs.Read.{passes, as_long, must_stand}
+use Rattle.cx_tool.proofs.Spellings.{semicolon_ends, tail_of, behind_value}
+use Rattle.cx_tool.proofs.Units.{must_begin, read_head, must_end, read_return, read_end, nothing_behind, unit_of}
 use Rattle.cx_tool.proofs.parser.read_unit.Goals as goal
 
-pub returns : goal.returns
-returns c =
-    let text = c.args.text.now in
-    let tokens = c.args.tokens.now in
-    let placed = c.requires in
+pub returns-in_err-at-clause-refused : goal.returns-in_err-at-clause-refused
+returns-in_err-at-clause-refused c = λ h unit is. c.in_err-at.ensures.otherwise (must_begin c.args.list.now c.args.kinds.now unit c.requires is)
+
+pub returns-in_err-at-2-clause-refused : goal.returns-in_err-at-2-clause-refused
+returns-in_err-at-2-clause-refused c =
+    λ h unit is.
+    let list = c.args.list.now in
+    let all = c.args.kinds.now in
+    let checks = c.in_ok-checks in
+    let end = must_end list all c.in_ok-at.at checks.at checks.checks unit c.requires c.in_ok-at.ensures.stand c.in_ok-at.ensures.next checks.ensures.reads checks.ensures.ends is in
+    c.in_err-at-2.ensures.otherwise (must_stand list all checks.at (kinds.Return ∷ []) (spell unit.value ++ codes ";" ∷ codes "}" ∷ []) c.requires refl end)
+
+pub returns-in_err-value-clause-refused : goal.returns-in_err-value-clause-refused
+returns-in_err-value-clause-refused c =
+    λ h unit is.
+    let list = c.args.list.now in
+    let all = c.args.kinds.now in
+    let checks = c.in_ok-checks in
+    let end = must_end list all c.in_ok-at.at checks.at checks.checks unit c.requires c.in_ok-at.ensures.stand c.in_ok-at.ensures.next checks.ensures.reads checks.ensures.ends is in
+    let word = read_return list all checks.at c.in_ok-at-2.at c.requires checks.ensures.reads.reads.within c.in_ok-at-2.ensures.stand c.in_ok-at-2.ensures.next in
+    let rest = codes ";" ∷ codes "}" ∷ [] in
+    let none = c.in_err-value.ensures.refused (ap Err (passes c.from_residual-in_err-value.result c.in_err-value.field-0.0 refusals.NotBuilt c.from_residual-in_err-value.ensures.1 h)) in
+    none unit.value rest is.value semicolon_ends (tail_of (codes "return") (words_from list c.in_ok-at-2.at) (spell unit.value ++ rest) (sym word.more_words ∙ end))
+
+pub returns-in_err-at-3-clause-refused : goal.returns-in_err-at-3-clause-refused
+returns-in_err-at-3-clause-refused c =
+    λ h unit is.
+    let list = c.args.list.now in
+    let all = c.args.kinds.now in
     let checks = c.in_ok-checks in
     let value = c.in_ok-value in
-    let int = one_of text tokens 0 1 kinds.Int (codes "int") placed c.in_ok-expect.ensures (λ b h. h) refl refl in
-    let name = one_of text tokens 1 2 kinds.Main (codes "main") placed c.in_ok-expect-2.ensures (λ b h. h) refl refl in
-    let opens = one_of text tokens 2 3 kinds.OpenParen (codes "(") placed c.in_ok-expect-3.ensures (λ b h. h) refl refl in
-    let closes = one_of text tokens 3 4 kinds.CloseParen (codes ")") placed c.in_ok-expect-4.ensures (λ b h. h) refl refl in
-    let begins = one_of text tokens 4 5 kinds.OpenBrace (codes "{") placed c.in_ok-expect-5.ensures (λ b h. h) refl refl in
-    let word = one_of text tokens checks.at (checks.at + 1) kinds.Return (codes "return") placed c.in_ok-expect-6.ensures (λ b h. h) refl refl in
-    let semicolon = one_of text tokens value.at (value.at + 1) kinds.Semicolon (codes ";") placed c.in_ok-expect-7.ensures (λ b h. h) refl refl in
-    let ends = one_of text tokens (value.at + 1) (value.at + 2) kinds.CloseBrace (codes "}") placed c.in_ok-expect-8.ensures (λ b h. h) refl (omega arith) in
-    let rest = then text tokens word (then text tokens value.ensures.reads (then text tokens semicolon ends)) in
-    let body = then_other text tokens checks.ensures.reads rest in
-    let unit = then text tokens int (then text tokens name (then text tokens opens (then text tokens closes (then text tokens begins body)))) in
-    let P : ℕ → Type 0 = λ n. Reads text tokens 0 n (spell_unit (record { checks = checks.checks; value = value.value })) (map (λ (check : Check). check.line) checks.checks) (map (λ (check : Check). check.column) checks.checks) in
-    let whole : value.at + 2 ≡ length tokens = omega (arith, unit.within) in
-    record { reads = subst P whole unit; checks = checks.ensures.shaped; value = value.ensures.shaped }
+    let end = must_end list all c.in_ok-at.at checks.at checks.checks unit c.requires c.in_ok-at.ensures.stand c.in_ok-at.ensures.next checks.ensures.reads checks.ensures.ends is in
+    let word = read_return list all checks.at c.in_ok-at-2.at c.requires checks.ensures.reads.reads.within c.in_ok-at-2.ensures.stand c.in_ok-at-2.ensures.next in
+    let read : words_from list checks.at ≡ codes "return" ∷ (spell value.value ++ words_from list value.at) = word.more_words ∙ ap (λ (w : List (List ℕ)). codes "return" ∷ w) value.ensures.reads.more_words in
+    let last = (behind_value unit value.value (words_from list value.at) is.value value.ensures.shaped value.ensures.ends (sym read ∙ end)).1 in
+    c.in_err-at-3.ensures.otherwise (must_stand list all value.at (kinds.Semicolon ∷ kinds.CloseBrace ∷ []) [] c.requires refl last)
+
+pub returns-then-at-kinds-clause-refused : goal.returns-then-at-kinds-clause-refused
+returns-then-at-kinds-clause-refused c =
+    λ h unit is.
+    let list = c.args.list.now in
+    let all = c.args.kinds.now in
+    let checks = c.in_ok-checks in
+    let value = c.in_ok-value in
+    let end = must_end list all c.in_ok-at.at checks.at checks.checks unit c.requires c.in_ok-at.ensures.stand c.in_ok-at.ensures.next checks.ensures.reads checks.ensures.ends is in
+    let word = read_return list all checks.at c.in_ok-at-2.at c.requires checks.ensures.reads.reads.within c.in_ok-at-2.ensures.stand c.in_ok-at-2.ensures.next in
+    let read : words_from list checks.at ≡ codes "return" ∷ (spell value.value ++ words_from list value.at) = word.more_words ∙ ap (λ (w : List (List ℕ)). codes "return" ∷ w) value.ensures.reads.more_words in
+    let last = (behind_value unit value.value (words_from list value.at) is.value value.ensures.shaped value.ensures.ends (sym read ∙ end)).1 in
+    let ends = read_end list all value.at c.in_ok-at-3.at c.requires value.ensures.reads.within c.in_ok-at-3.ensures.stand c.in_ok-at-3.ensures.next in
+    nothing_behind list all value.at c.in_ok-at-3.at c.requires ends last (omega (arith, as_long list all c.requires))
+
+pub returns-clause-unit : goal.returns-clause-unit
+returns-clause-unit c =
+    let list = c.args.list.now in
+    let all = c.args.kinds.now in
+    let checks = c.in_ok-checks in
+    let value = c.in_ok-value in
+    let front = read_head list all c.in_ok-at.at c.requires c.in_ok-at.ensures.stand c.in_ok-at.ensures.next in
+    let word = read_return list all checks.at c.in_ok-at-2.at c.requires checks.ensures.reads.reads.within c.in_ok-at-2.ensures.stand c.in_ok-at-2.ensures.next in
+    let ends = read_end list all value.at c.in_ok-at-3.at c.requires value.ensures.reads.within c.in_ok-at-3.ensures.stand c.in_ok-at-3.ensures.next in
+    unit_of list (record { checks = checks.checks; value = value.value }) c.in_ok-at.at checks.at c.in_ok-at-2.at value.at c.in_ok-at-3.at front checks.ensures.reads word value.ensures.reads ends value.ensures.shaped (omega (arith, as_long list all c.requires))

@@ -1,9 +1,12 @@
-use Rattle.std.proofs.Common.{sym, subst, ◌∙◌}
+use Rattle.std.proofs.Common.{sym, subst, ◌∙◌, inl}
+use Rattle.cx_outside.specs.Fault.{Rose}
+use Rattle.cx_outside.specs.declared.limit.Limit.TheVariants as limits
+use Rattle.cx_tool.specs.declared.answer.Answer.TheVariants as answers
 use Rattle.cx_code.specs.Violation.{written}
 use Rattle.cx_tool.specs.Closing.{closing_text}
 use Rattle.cx_tool.specs.Report.{HasClosingLine}
-use Rattle.cx_outside.specs.Told.{Appends-then}
-use Rattle.cx_tool.proofs.Closed.{same_answer, last_line}
+use Rattle.cx_outside.specs.Told.{Appends-then, Rose-earlier, Rose-later}
+use Rattle.cx_tool.proofs.Closed.{same_answer, last_line, still_comes}
 use Rattle.cx_tool.proofs.top.report_of.Goals as goal
 
 pub returns-clause-no_file : goal.returns-clause-no_file
@@ -11,6 +14,18 @@ returns-clause-no_file g c =
     λ name e.
     let same = same_answer _ _ _ c.close-answer.ensures.closed (subst HasClosingLine (sym e) tt) in
     c.decide-decided.ensures.no_file name (same ∙ e)
+
+pub returns-clause-unit_refused : goal.returns-clause-unit_refused
+returns-clause-unit_refused g c =
+    λ refusal e.
+    let same = same_answer _ _ _ c.close-answer.ensures.closed (subst HasClosingLine (sym e) tt) in
+    c.decide-decided.ensures.unit_refused refusal (same ∙ e)
+
+pub returns-clause-too_many : goal.returns-clause-too_many
+returns-clause-too_many g c =
+    λ limit count e.
+    let same = same_answer _ _ _ c.close-answer.ensures.closed (subst HasClosingLine (sym e) tt) in
+    c.decide-decided.ensures.too_many limit count (same ∙ e)
 
 pub returns-clause-ran : goal.returns-clause-ran
 returns-clause-ran g c =
@@ -22,12 +37,13 @@ returns-clause-ran g c =
       ran.0,
       ran.1,
       ran.2,
+      ran.3,
       record {
-        image = ran.3.image;
-        source = ran.3.source;
-        put = ran.3.put;
-        runs = ran.3.runs;
-        lines = last_line (g.E.Sink.taken c.args.err.now) (g.E.Sink.taken c.decide-decided.new.err) (g.E.Sink.taken c.close-answer.new.err) (written ran.3.image c.decide-decided.result.run.journal) _ ran.3.lines last;
+        image = ran.4.image;
+        source = ran.4.source;
+        put = ran.4.put;
+        runs = ran.4.runs;
+        lines = last_line (g.E.Sink.taken c.args.err.now) (g.E.Sink.taken c.decide-decided.new.err) (g.E.Sink.taken c.close-answer.new.err) (written ran.4.image c.decide-decided.result.run.journal) _ ran.4.lines last;
       },
     )
 
@@ -43,3 +59,18 @@ returns-clause-unbuilt g c =
     λ name e.
     let same = same_answer _ _ _ c.close-answer.ensures.closed (subst HasClosingLine (sym e) tt) in
     c.decide-decided.ensures.unbuilt name (same ∙ e)
+
+pub returns-clause-long_name_comes : goal.returns-clause-long_name_comes
+returns-clause-long_name_comes g c =
+    λ count has held.
+    still_comes c.decide-decided.result.answer c.close-answer.result (answers.TooMany limits.Name count) (Rose (g.E.Sink.faults c.decide-decided.new.err) (g.E.Sink.faults c.close-answer.new.err)) c.close-answer.ensures.closed (λ rose. held (Rose-earlier (g.E.Sink.faults c.args.err.now) (g.E.Sink.faults c.decide-decided.new.err) (g.E.Sink.faults c.close-answer.new.err) c.decide-decided.ensures.later rose)) (inl (c.decide-decided.ensures.long_name_comes count has))
+
+pub returns-clause-unbuilt_comes : goal.returns-clause-unbuilt_comes
+returns-clause-unbuilt_comes g c =
+    λ unit folder list names told is outside none held.
+    still_comes c.decide-decided.result.answer c.close-answer.result (answers.Unbuilt unit) (Rose (g.E.Sink.faults c.decide-decided.new.err) (g.E.Sink.faults c.close-answer.new.err)) c.close-answer.ensures.closed (λ rose. held (Rose-earlier (g.E.Sink.faults c.args.err.now) (g.E.Sink.faults c.decide-decided.new.err) (g.E.Sink.faults c.close-answer.new.err) c.decide-decided.ensures.later rose)) (c.decide-decided.ensures.unbuilt_comes unit folder list names told is outside none)
+
+pub returns-clause-ran_comes : goal.returns-clause-ran_comes
+returns-clause-ran_comes g c =
+    λ unit folder list tree names told is spelled few none held.
+    still_comes c.decide-decided.result.answer c.close-answer.result (answers.Ran) (Rose (g.E.Sink.faults c.decide-decided.new.err) (g.E.Sink.faults c.close-answer.new.err)) c.close-answer.ensures.closed (λ rose. held (Rose-earlier (g.E.Sink.faults c.args.err.now) (g.E.Sink.faults c.decide-decided.new.err) (g.E.Sink.faults c.close-answer.new.err) c.decide-decided.ensures.later rose)) (c.decide-decided.ensures.ran_comes unit folder list tree names told is spelled few none (λ rose. held (Rose-later (g.E.Sink.faults c.args.err.now) (g.E.Sink.faults c.decide-decided.new.err) (g.E.Sink.faults c.close-answer.new.err) c.close-answer.ensures.later rose)))

@@ -1,0 +1,29 @@
+use Rattle.std.proofs.Common.{sym, subst}
+use Rattle.cx_outside.specs.Told.{Rose-later}
+use Rattle.cx_tool.specs.declared.answer.Answer.TheVariants as answers
+use Rattle.cx_tool.specs.Grammar.{IsOutside}
+use Rattle.cx_tool.proofs.Stops.{wants, wants_memory, built, no_outside}
+use Rattle.cx_tool.proofs.exec.put_image.Goals as goal
+
+pub returns-in_err-list-clause-unbuilt_comes : goal.returns-in_err-list-clause-unbuilt_comes
+returns-in_err-list-clause-unbuilt_comes g c =
+    λ folder list told is outside none.
+    wants_memory (answers.Unbuilt c.args.unit_name.now) c.from_residual.result c.in_err-list.field-0.0 c.from_residual.ensures.1 (c.in_err-list.ensures.list_comes folder list told is none)
+
+pub returns-in_err-list-clause-built_comes : goal.returns-in_err-list-clause-built_comes
+returns-in_err-list-clause-built_comes g c =
+    λ folder list tree told is unit few none.
+    wants c.from_residual.result c.in_err-list.field-0.0 c.from_residual.ensures.1 (c.in_err-list.ensures.list_comes folder list told is none)
+
+pub returns-in_err-valid-clause-built_comes : goal.returns-in_err-valid-clause-built_comes
+returns-in_err-valid-clause-built_comes g c =
+    λ folder list tree told is unit few none.
+    let same = c.in_ok-list.ensures.list_comes folder list told is none in
+    wants c.from_residual-in_err-valid.result c.in_err-valid.field-0.0 c.from_residual-in_err-valid.ensures.1 (built list c.in_ok-list.list tree c.in_err-valid.field-0.0 c.args.unit_name.now unit few same c.in_err-valid.ensures.cause)
+
+pub returns-in-Ok-clause-unbuilt_comes : goal.returns-in-Ok-clause-unbuilt_comes
+returns-in-Ok-clause-unbuilt_comes g c =
+    λ folder list told is outside none.
+    let same = c.in_ok-list.ensures.list_comes folder list told is (λ rose. none (Rose-later (g.F.Files.faults c.args.files.now) (g.F.Files.faults c.assembled.new.files) (g.F.Files.faults c.put.new.self) c.put.ensures.later rose)) in
+    let compiled = c.in_ok-valid.ensures.compiled in
+    no_outside c.in_ok-list.list compiled.unit compiled.spelled.spelled c.in_ok-valid.ensures.few (subst IsOutside (sym same) outside)
