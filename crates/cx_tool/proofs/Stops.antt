@@ -1,5 +1,6 @@
 -- What is answered in place of an image.
-use Rattle.std.proofs.Common.{◌≡◌, ◌⊎◌, ℕ, ◌≤◌, List, length, Option, Some, None, Result, Ok, Err, inl, inr, refl, subst, ◌∙◌, arith}
+use Rattle.std.proofs.Common.{◌≡◌, ◌⊎◌, ℕ, ◌≤◌, List, length, Option, Some, None, Result, Ok, Err, inl, inr, refl, sym, subst, ◌∙◌, arith}
+use Rattle.std.specs.Prelude.{IfErr}
 use Rattle.std.specs.Result.{IsErrAnd}
 use Rattle.cx_outside.specs.Folder.{Folder, WhereTold}
 use Rattle.cx_lexer.specs.declared.fault.LexFault.TheVariants as lexical
@@ -10,7 +11,7 @@ use Rattle.cx_includes.specs.declared.part.Part.{Part}
 use Rattle.cx_includes.specs.Directive.{name_in}
 use Rattle.cx_includes.specs.Unit.{Taken}
 use Rattle.cx_includes.specs.Fault.{IsFirstFault, Fails, IsAtFault}
-use Rattle.cx_includes.specs.Assembled.{HasCause}
+use Rattle.cx_includes.specs.Assembled.{HasCause, IsListOver}
 use Rattle.cx_includes.specs.Assembled as includes
 use Rattle.cx_tool.specs.declared.answer.Answer.{Answer}
 use Rattle.cx_tool.specs.declared.answer.Answer.TheVariants as answers
@@ -18,7 +19,7 @@ use Rattle.cx_tool.specs.declared.tree.SourceUnit.{SourceUnit}
 use Rattle.cx_tool.specs.Grammar.{IsSpelling, IsOutside, words_of, most_tokens}
 use Rattle.cx_tool.specs.Faults.{fault_answer, HasFault}
 use Rattle.cx_tool.specs.Report.{Comes}
-use Rattle.cx_tool.specs.Exec.{IsStoppedBy, IsWant}
+use Rattle.cx_tool.specs.Exec.{HasStopCause, IsStoppedBy, IsWant}
 
 -- a fault that isn't the unit's, where no call failed
 pub only_want : (fault : AssembleFault) (content : Option Folder) (unit : List ℕ) (rose : Type 0) (answer : Answer) → includes.IsWant fault → HasCause content unit rose fault → (rose → ⊥) → Comes answer (fault_answer unit fault) → answer ≡ answers.OutOfMemory
@@ -46,6 +47,19 @@ no_outside list tree is few outside = elim outside [ inl none ↦ none tree is |
 pub built : (list other : Assembled) (tree : SourceUnit) (answer : Answer) (unit : List ℕ) → IsSpelling (words_of list) tree → length list.placed ≤ most_tokens → other ≡ list
     → (answer ≡ answers.OutOfMemory) ⊎ ((answer ≡ answers.Unbuilt unit) × IsOutside other) → answer ≡ answers.OutOfMemory
 built list other tree answer unit is few same cause = elim cause [ inl e ↦ e | inr unbuilt ↦ absurd (no_outside list tree is few (subst IsOutside same unbuilt.1)) ]
+
+-- what a `?` hands on keeps its cause
+pub handed_on : {X : Type 0} (r : Result X Answer) (x : Answer) (P : Answer → Type 0) → IsErrAnd r (λ e. e ≡ x) → P x → IfErr r P
+handed_on (Ok v) x P h p = absurd h
+handed_on (Err y) x P h p = subst P (sym h) p
+
+-- a unit that isn't built, or memory is wanted
+pub build_cause : (content : Option Folder) (rose : Type 0) (unit : List ℕ) (list : Assembled) (answer : Answer) → IsListOver content unit list
+    → (answer ≡ answers.OutOfMemory) ⊎ ((answer ≡ answers.Unbuilt unit) × IsOutside list) → HasStopCause answer content rose unit
+build_cause content rose unit list answer listed cause = elim cause [
+    inl e ↦ subst (λ (a : Answer). HasStopCause a content rose unit) (sym e) tt
+  | inr h ↦ subst (λ (a : Answer). HasStopCause a content rose unit) (sym h.0) (refl, record { list = list; listed = listed; outside = h.1 })
+  ]
 
 -- ---- a file that is missing
 

@@ -1,8 +1,13 @@
-use Rattle.std.proofs.Common.{sym, subst}
+use Rattle.std.proofs.Common.{ℕ, List, Option, sym, ap, subst, ◌∙◌}
 use Rattle.cx_outside.specs.Told.{Rose-later}
+use Rattle.cx_tool.specs.declared.answer.Answer.{Answer}
 use Rattle.cx_tool.specs.declared.answer.Answer.TheVariants as answers
 use Rattle.cx_tool.specs.Grammar.{IsOutside}
-use Rattle.cx_tool.proofs.Stops.{wants, wants_memory, built, no_outside}
+use Rattle.cx_outside.specs.Fault.{Rose}
+use Rattle.cx_outside.specs.Folder.{Folder, BothTold, Puts}
+use Rattle.cx_code.specs.Spelling.{image_spelling}
+use Rattle.cx_tool.specs.Exec.{HasStopCause}
+use Rattle.cx_tool.proofs.Stops.{wants, wants_memory, built, no_outside, handed_on, build_cause}
 use Rattle.cx_tool.proofs.exec.put_image.Goals as goal
 
 pub returns-in_err-list-clause-unbuilt_comes : goal.returns-in_err-list-clause-unbuilt_comes
@@ -27,3 +32,19 @@ returns-in-Ok-clause-unbuilt_comes g c =
     let same = c.in_ok-list.ensures.list_comes folder list told is (λ rose. none (Rose-later (g.F.Files.faults c.args.files.now) (g.F.Files.faults c.assembled.new.files) (g.F.Files.faults c.put.new.self) c.put.ensures.later rose)) in
     let compiled = c.in_ok-valid.ensures.compiled in
     no_outside c.in_ok-list.list compiled.unit compiled.spelled.spelled c.in_ok-valid.ensures.few (subst IsOutside (sym same) outside)
+
+pub returns-in_err-valid-clause-cause : goal.returns-in_err-valid-clause-cause
+returns-in_err-valid-clause-cause g c =
+    let rose = Rose (g.F.Files.faults c.args.files.now) (g.F.Files.faults c.assembled.new.files) in
+    let content = g.F.Files.content c.args.files.now in
+    handed_on c.from_residual-in_err-valid.result c.in_err-valid.field-0.0 (λ (answer : Answer). HasStopCause answer content rose c.args.unit_name.now) c.from_residual-in_err-valid.ensures.1
+    (build_cause content rose c.args.unit_name.now c.in_ok-list.list c.in_err-valid.field-0.0 c.in_ok-list.ensures.list c.in_err-valid.ensures.cause)
+
+pub returns-in-Ok-clause-ok : goal.returns-in-Ok-clause-ok
+returns-in-Ok-clause-ok g c =
+    let same = c.bytes-2.ensures ∙ (c.in_ok-bytes.ensures ∙ ap image_spelling c.image.ensures.same) in
+    let told = subst (λ (bytes : List ℕ). BothTold (g.F.Files.content c.assembled.new.files) (g.F.Files.content c.put.new.self) (Puts c.args.image_name.now bytes)) same c.in-Ok.ensures.puts in
+    (
+      record { list = c.in_ok-list.list; listed = c.in_ok-list.ensures.list; few = c.in_ok-valid.ensures.few; compiled = c.in_ok-valid.ensures.compiled },
+      subst (λ (content : Option Folder). BothTold content (g.F.Files.content c.put.new.self) (Puts c.args.image_name.now (image_spelling c.in_ok-valid.valid))) c.in_ok-list.ensures.stays told,
+    )
