@@ -57,9 +57,9 @@ handed_on (Err y) x P h p = subst P (sym h) p
 pub build_cause : (content : Option Folder) (rose : Type 0) (unit : List ℕ) (list : Assembled) (answer : Answer) → IsListOver content unit list
     → (answer ≡ answers.OutOfMemory) ⊎ ((answer ≡ answers.Unbuilt unit) × IsOutside list) → HasStopCause answer content rose unit
 build_cause content rose unit list answer listed cause = elim cause [
-    inl e ↦ subst (λ (a : Answer). HasStopCause a content rose unit) (sym e) tt
+  | inl e ↦ subst (λ (a : Answer). HasStopCause a content rose unit) (sym e) tt
   | inr h ↦ subst (λ (a : Answer). HasStopCause a content rose unit) (sym h.0) (refl, record { list = list; listed = listed; outside = h.1 })
-  ]
+]
 
 -- ---- a file that is missing
 

@@ -43,8 +43,7 @@ returns-in_err-valid-clause-cause g c =
 pub returns-in-Ok-clause-ok : goal.returns-in-Ok-clause-ok
 returns-in-Ok-clause-ok g c =
     let same = c.bytes-2.ensures ∙ (c.in_ok-bytes.ensures ∙ ap image_spelling c.image.ensures.same) in
-    let told = subst (λ (bytes : List ℕ). BothTold (g.F.Files.content c.assembled.new.files) (g.F.Files.content c.put.new.self) (Puts c.args.image_name.now bytes)) same c.in-Ok.ensures.puts in
-    (
+    let told = subst (λ (bytes : List ℕ). BothTold (g.F.Files.content c.assembled.new.files) (g.F.Files.content c.put.new.self) (Puts c.args.image_name.now bytes)) same c.in-Ok.ensures.puts in (
       record { list = c.in_ok-list.list; listed = c.in_ok-list.ensures.list; few = c.in_ok-valid.ensures.few; compiled = c.in_ok-valid.ensures.compiled },
       subst (λ (content : Option Folder). BothTold content (g.F.Files.content c.put.new.self) (Puts c.args.image_name.now (image_spelling c.in_ok-valid.valid))) c.in_ok-list.ensures.stays told,
     )
