@@ -8,4 +8,3 @@ mod spelled;
 
 pub use fault::{FaultPlace, ListFault};
 pub use first::first_fault;
-
