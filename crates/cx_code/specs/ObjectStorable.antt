@@ -22,11 +22,12 @@ body_of (forms.Inline tokens body) = Some body
 body_of (forms.Helper body) = Some body
 body_of forms.Declared = None
 
+abbrev pub body_count : Option FunctionBody → ℕ
+body_count None = 0
+body_count (Some body) = length body.code
+
 abbrev pub instruction_count : FunctionForm → ℕ
-instruction_count form = body_count (body_of form) where
-  abbrev body_count : Option FunctionBody → ℕ
-  body_count None = 0
-  body_count (Some body) = length body.code
+instruction_count form = body_count (body_of form)
 
 -- what an instruction's first number must be below where it is an index into a table of the object: of `call`, `global`, `text_at` of a text by its index plus 1, `begin`, `verdict`, `violate`, `throw`, `destroyed`
 abbrev pub index_bound : Object → ℕ → Option ℕ

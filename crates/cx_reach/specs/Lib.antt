@@ -1,0 +1,4 @@
+pub mod Comes
+pub mod Says
+pub mod Joins
+pub mod Effects

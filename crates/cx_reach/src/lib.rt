@@ -1,0 +1,9 @@
+//! Which places of a function are reached, from where and with how many operands.
+#![tactic(auto)]
+
+mod arriving;
+mod effect;
+mod search;
+
+pub use arriving::{Arrival, Depths};
+pub use search::arrivals;
