@@ -1,5 +1,5 @@
 -- What is joined says what its parts say, and no more.
-use Rattle.std.proofs.Common.{◌≡◌, ◌≢◌, ◌⊎◌, ℕ, ◌+◌, ◌^◌, ◌<◌, ◌≤◌, ◌||◌, ℤ, pos, neg_ℤ, ◌+ℤ◌, ◌-ℤ◌, ◌≤ℤ◌, Bool, true, false, if◌then◌else◌, Some, slice_get, length, subst, refl, sym, ap, ◌∙◌, arith, inl, inr}
+use Rattle.std.proofs.Common.{◌≡◌, ◌≢◌, ◌⊎◌, ℕ, ◌+◌, ◌^◌, ◌<◌, ◌≤◌, ◌||◌, ℤ, pos, ◌+ℤ◌, ◌-ℤ◌, Bool, true, false, if◌then◌else◌, subst, refl, sym, ap, ◌∙◌, arith, inl, inr}
 use Rattle.std.proofs.lemmas.Bool.{or_cases}
 use Rattle.std.proofs.lemmas.Int.{ints}
 use Rattle.cx_code.specs.declared.image.Image.{Image}
@@ -10,7 +10,7 @@ use Rattle.cx_reach.specs.declared.arriving.Depths.{Depths}
 use Rattle.cx_reach.specs.declared.arriving.Depths.TheVariants as depths
 use Rattle.cx_reach.specs.Comes.{Comes, ComesWith}
 use Rattle.cx_reach.specs.Joins.{JoinsDepths, IsJoin, moved, IsSmall}
-use Rattle.cx_reach.specs.Says.{SaysDepth, SaysOrigin, Says, IsWithin, DepthsCome, IsSound, depths_room, room_of}
+use Rattle.cx_reach.specs.Says.{SaysDepth, SaysOrigin, IsWithin, DepthsCome, IsSound, depths_room, room_of}
 
 -- ---- what is said
 
@@ -100,7 +100,7 @@ same_arrival : (d e : Depths) (p q c f : Bool) → d ≡ e → p ≡ q → c ≡
     → ◌≡◌ {A = Arrival} (record { depths = d; plain = p; cleanup = c }) (record { depths = e; plain = q; cleanup = f })
 same_arrival d e p q c f x y z = rw (x, y, z) refl
 
-pub join_grows : (a b both : Arrival) → IsJoin a b both → (both ≡ a) ⊎ (room_of both < room_of a)
+join_grows : (a b both : Arrival) → IsJoin a b both → (both ≡ a) ⊎ (room_of both < room_of a)
 join_grows a b both is =
     let d = depths_grow a.depths b.depths both.depths is.depths in
     let p = flag_grows a.plain b.plain both.plain is.plain in
@@ -118,6 +118,9 @@ join_grows a b both is =
         ]
       ]
     ]
+
+pub join_less : (a b both : Arrival) → IsJoin a b both → both ≢ a → room_of both < room_of a
+join_less a b both is apart = elim (join_grows a b both is) [ inl same ↦ absurd (apart same) | inr less ↦ less ]
 
 -- ---- how deep
 

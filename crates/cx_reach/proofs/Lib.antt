@@ -1,1 +1,4 @@
 mod Joined
+mod Grown
+mod Begun
+mod Turns

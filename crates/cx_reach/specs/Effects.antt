@@ -1,5 +1,5 @@
 -- This defines what an instruction does to the number of operands, and where the code may go on behind it; it is this project's own.
-use Rattle.std.specs.Prelude.{◌≡◌, ◌⊎◌, ◌↔◌, ◌^◌, ◌<◌, ℕ, Option, Some, None}
+use Rattle.std.specs.Prelude.{◌≡◌, ◌⊎◌, ◌↔◌, ℕ, Option, Some, None}
 use Rattle.cx_code.specs.declared.image.Image.{Image}
 use Rattle.cx_code.specs.declared.image.Function.{Function}
 use Rattle.cx_code.specs.declared.operation.Operation.{Operation}

@@ -1,5 +1,5 @@
 -- This defines what two arrivals say together, and what one says behind an instruction; it is this project's own.
-use Rattle.std.specs.Prelude.{◌≡◌, ◌≢◌, ◌⊎◌, ◌==◌, ◌||◌, not, ℕ, ℤ, pos, neg_ℤ, ◌+ℤ◌, ◌-ℤ◌, ◌≤ℤ◌}
+use Rattle.std.specs.Prelude.{◌≡◌, ◌≢◌, ◌⊎◌, ◌==◌, ◌||◌, not, ℕ, pos, neg_ℤ, ◌+ℤ◌, ◌-ℤ◌, ◌≤ℤ◌}
 use Rattle.cx_code.specs.declared.code.Region.{Region}
 use Rattle.cx_reach.specs.declared.arriving.Arrival.{Arrival}
 use Rattle.cx_reach.specs.declared.arriving.Depths.{Depths}

@@ -91,7 +91,8 @@ impl Arrival {
 
     /// That of a region's target.
     pub fn target_of(region: &Region) -> Self
-        ensures { result ≡ target_arrival region.now }
+        ensures is { result ≡ target_arrival region.now }
+        ensures small { IsSmall (2 ^ 32) result.depths }
     {
         let cleanup = region.kind == 1;
         Arrival {

@@ -1,4 +1,4 @@
-ghost use Rattle.std.specs.Prelude.{◌≡◌, ◌<◌, ◌^◌, length, Some, replicate, IfOk, OnOk, false, vec_len};
+ghost use Rattle.std.specs.Prelude.{◌≡◌, ◌<◌, ◌^◌, length, Some, replicate, IfOk, OnOk, false, []};
 ghost use Rattle.cx_code.specs.declared.image.Image.{Image as Whole};
 ghost use Rattle.cx_reach.specs.Comes.{AreArrivals};
 ghost use Rattle.cx_reach.specs.Says.{AreSmall, HasJoined, HasTold, HasLooked, IsSearched};
@@ -44,7 +44,7 @@ fn begun(alloc: Global, function: &Function) -> Result<Search, NoMemory>
 /// A search that knows of nothing.
 fn blank(alloc: Global, length: usize) -> Result<Search, NoMemory>
     ensures arrivals { IfOk result (λ search. search.arrivals.items ≡ replicate length (record { depths = Depths.None; plain = false; cleanup = false })) }
-    ensures pending { IfOk result (λ search. vec_len search.pending ≡ 0) }
+    ensures pending { IfOk result (λ search. search.pending.items ≡ []) }
 {
     Ok(Search {
         arrivals: vec![in alloc; Arrival::none(); length]?,
