@@ -1,5 +1,5 @@
 -- What one turn of the search keeps, and what is known when nothing is pending.
-use Rattle.std.proofs.Common.{◌≡◌, ◌⊎◌, ℕ, ◌+◌, ◌^◌, ◌<◌, ◌≤◌, ℤ, pos, List, [], ◌∷◌, ◌++◌, length, Some, None, slice_get, subst, sym, ap, ◌∙◌, arith, inl, inr, length-append}
+use Rattle.std.proofs.Common.{◌≡◌, ◌⊎◌, ℕ, ◌+◌, ◌^◌, ◌<◌, ◌≤◌, ℤ, pos, List, [], ◌∷◌, ◌++◌, length, Some, slice_get, subst, sym, ap, ◌∙◌, arith, inl, inr, length-append}
 use Rattle.std.specs.List.{All, Contains}
 use Rattle.std.proofs.lemmas.List.Elements.{All-weaker, All-get_or, All-pop, Contains-push_cases}
 use Rattle.std.proofs.lemmas.Option.{slice_get_within, slice_get_cases, get_or_from_slice_get, option_and_then_some}
@@ -17,7 +17,7 @@ use Rattle.cx_reach.specs.Effects.{IsEffect, IsEffectAt}
 use Rattle.cx_reach.specs.Joins.{IsSmall, moved}
 use Rattle.cx_reach.specs.Says.{SaysDepth, Says, IsWithin, DepthsCome, IsSound, AreSound, AreSmall, work, HasJoined, HasLooked, IsClosedAt, HasBegun, IsSearched, bound_of}
 use Rattle.cx_reach.proofs.Joined.{small_more, small_moved, says_moved, moved_come}
-use Rattle.cx_reach.proofs.Grown.{same_found, found_too, as_before, grown_on}
+use Rattle.cx_reach.proofs.Grown.{same_found, found_too, grown_on}
 
 -- ---- a place is looked at
 
@@ -37,14 +37,6 @@ module _ (image : Image) (function : Function) (place : ℕ) (operation : Operat
   says_on : (arrival : Arrival) (origin : Origin) (depth : ℤ) → Says arrival origin depth → Says (handed_on image function operation arrival) origin (left_behind image function operation depth)
   says_on arrival Plain depth says = record { from = says.from; many = says_moved (taken_count function operation) (given_count image operation) arrival.depths depth says.many }
   says_on arrival Cleanup depth says = record { from = says.from; many = says_moved (taken_count function operation) (given_count image operation) arrival.depths depth says.many }
-
-looked_nowhere : (image : Image) (function : Function) (place : ℕ) (arrivals : List Arrival) (pending : List ℕ) → IsEffectAt image function place None → HasLooked image function place arrivals arrivals pending pending
-looked_nowhere image function place arrivals pending none = record {
-  grew = as_before arrivals pending;
-  handed = λ arrival now operation next found stands has follows here. absurd (none operation stands has);
-  sound = λ sound. sound;
-  small = λ bound small. All-weaker (λ (a : Arrival). IsSmall bound a.depths) (λ (a : Arrival). IsSmall (bound + 2 ^ 32) a.depths) (λ a is. small_more bound (bound + 2 ^ 32) (omega arith) a.depths is) arrivals small;
-}
 
 module _ (image : Image) (function : Function) (place : ℕ) (effect : Effect) (known arrival : Arrival) (first second third : List Arrival) (ps qs rs : List ℕ)
     (few : effect.taken < 2 ^ 32) (less : effect.given < 2 ^ 32)
@@ -161,12 +153,6 @@ module _ (image : Image) (function : Function) (place : ℕ) (arrivals grown : L
       small = All-weaker (λ (a : Arrival). IsSmall (bound_of arrivals pending + 2 ^ 32) a.depths) (λ (a : Arrival). IsSmall (bound_of grown later) a.depths)
           (λ a is. small_more (bound_of arrivals pending + 2 ^ 32) (bound_of grown later) deeper a.depths is) grown (looks.small (bound_of arrivals pending) so_far.small);
     }
-
--- the depths fit
-pub small_enough : (image : Image) (function : Function) (arrivals : List Arrival) (pending : List ℕ) → length arrivals < 2 ^ 64 → IsSearched image function arrivals pending → AreSmall (2 ^ 100) arrivals
-small_enough image function arrivals pending few so_far =
-    All-weaker (λ (a : Arrival). IsSmall (bound_of arrivals pending) a.depths) (λ (a : Arrival). IsSmall (2 ^ 100) a.depths)
-    (λ a is. small_more (bound_of arrivals pending) (2 ^ 100) (omega arith) a.depths is) arrivals so_far.small
 
 -- ---- the end
 

@@ -116,7 +116,22 @@ fn taken(function: &Function, operation: Operation) -> u32
         | Operation::Field(_)
         | Operation::Throw(_)
         | Operation::Destroyed(_) => 1,
-        _ => 0,
+        Operation::Push(_)
+        | Operation::PushBig(_)
+        | Operation::PushNull
+        | Operation::Get(_)
+        | Operation::Make(_, _)
+        | Operation::Jump(_)
+        | Operation::Global(_)
+        | Operation::In
+        | Operation::Begin(_, _, _)
+        | Operation::Violate(_, _, _)
+        | Operation::ContractEnd
+        | Operation::Rethrow
+        | Operation::Held
+        | Operation::Release
+        | Operation::Resume
+        | Operation::Flow => 0,
     }
 }
 
