@@ -2,3 +2,4 @@ mod Joined
 mod Grown
 mod Begun
 mod Turns
+mod Agreeing

@@ -2,3 +2,4 @@ pub mod Comes
 pub mod Says
 pub mod Joins
 pub mod Effects
+pub mod Agreement

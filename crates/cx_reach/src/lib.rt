@@ -3,7 +3,10 @@
 
 mod arriving;
 mod effect;
+pub mod laws;
 mod search;
+#[cfg(test)]
+mod tests;
 
 pub use arriving::{Arrival, Depths};
 pub use search::arrivals;
