@@ -18,7 +18,7 @@ use Rattle.cx_reach.specs.Comes.{Comes, start, target}
 use Rattle.cx_reach.specs.Joins.{IsSmall, target_arrival}
 use Rattle.cx_reach.specs.Says.{Says, IsSound, AreSound, AreSmall, room_of, work, HaveGrown, HasJoined, HasTold, IsClosedAt, HasBegun, IsSearched, bound_of}
 use Rattle.cx_reach.proofs.Joined.{small_more}
-use Rattle.cx_reach.proofs.Grown.{same_found, found_too, as_before, grown_on}
+use Rattle.cx_reach.proofs.Grown.{same_found, found_too, grown_on}
 
 -- ---- the targets of regions
 
@@ -30,14 +30,6 @@ target_sound image function place depth false comes = record { depths = (Plain, 
 target_says : (depth : ℤ) (cleanup : Bool) → Says (record { depths = depths.One depth; plain = not cleanup; cleanup = cleanup }) (if cleanup then Cleanup else Plain) depth
 target_says depth true = record { from = refl; many = refl }
 target_says depth false = record { from = refl; many = refl }
-
-pub told_none : (regions : List Region) (arrivals : List Arrival) (pending : List ℕ) → HasTold regions 0 arrivals arrivals pending pending
-told_none regions arrivals pending = record {
-  grew = as_before arrivals pending;
-  said = λ index region now none. absurd (omega arith);
-  sound = λ image function same sound. sound;
-  small = λ small. small;
-}
 
 module _ (regions : List Region) (count : ℕ) (region : Region) (arrival : Arrival) (is : arrival ≡ target_arrival region) (first second third : List Arrival) (ps qs rs : List ℕ) (stands : slice_get regions count ≡ Some region) (few : IsSmall (2 ^ 32) arrival.depths)
     (told : HasTold regions count first second ps qs) (joins : HasJoined (Some region.target) arrival second third qs rs) where

@@ -37,6 +37,9 @@ set_elsewhere xs at other x apart = elim (slice_get_cases xs other).1 [
 within_itself : (a b : Arrival) → a ≡ b → IsWithin a b
 within_itself a b same origin depth says = subst (λ (x : Arrival). Says x origin depth) same says
 
+pub at_all : {X : Type 0} (P : X → Type 0) (xs : List X) (at : ℕ) (x : X) → All P xs → slice_get xs at ≡ Some x → P x
+at_all P xs at x all e = subst P (get_or_from_slice_get xs at x x e) (All-get_or P xs at x (slice_get_within xs at x e) all)
+
 -- ---- nothing changed, and one after the other
 
 pub as_before : (arrivals : List Arrival) (pending : List ℕ) → HaveGrown arrivals arrivals pending pending
@@ -74,11 +77,6 @@ pub joined_nothing : (place : Option ℕ) (arrival : Arrival) (arrivals : List A
     → ((at : ℕ) (now : Arrival) → place ≡ Some at → slice_get arrivals at ≡ Some now → IsWithin arrival now) → HasJoined place arrival arrivals arrivals pending pending
 joined_nothing place arrival arrivals pending said =
     record { grew = as_before arrivals pending; said = said; sound = λ image function is sound. sound; small = λ bound is small. small }
-
-pub joined_outside : (place : Option ℕ) (arrival : Arrival) (arrivals : List Arrival) (pending : List ℕ)
-    → ((at : ℕ) → place ≡ Some at → length arrivals ≤ at) → HasJoined place arrival arrivals arrivals pending pending
-joined_outside place arrival arrivals pending outside =
-    joined_nothing place arrival arrivals pending (λ at now is found. absurd (omega (arith, outside at is, slice_get_within arrivals at now found)))
 
 pub joined_same : (at : ℕ) (known arrival both : Arrival) (arrivals : List Arrival) (pending : List ℕ) → slice_get arrivals at ≡ Some known → IsJoin known arrival both → both ≡ known
     → HasJoined (Some at) arrival arrivals arrivals pending pending
@@ -138,7 +136,6 @@ module _ (at : ℕ) (known arrival both : Arrival) (arrivals : List Arrival) (pe
       | inr apart ↦ sound place now (elsewhere now place apart e)
     ];
     small = λ bound is_small all.
-        let was : IsSmall bound known.depths =
-        subst (λ (a : Arrival). IsSmall bound a.depths) (get_or_from_slice_get arrivals at known known found) (All-get_or (λ (a : Arrival). IsSmall bound a.depths) arrivals at known inside all) in
+        let was : IsSmall bound known.depths = at_all (λ (a : Arrival). IsSmall bound a.depths) arrivals at known all found in
         All-set (λ (a : Arrival). IsSmall bound a.depths) arrivals at both (small_join bound known.depths arrival.depths both.depths is.depths was is_small) all;
   }

@@ -3,3 +3,5 @@ mod Grown
 mod Begun
 mod Turns
 mod Agreeing
+mod Unbroken
+mod Kept

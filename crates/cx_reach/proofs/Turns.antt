@@ -1,8 +1,8 @@
 -- What one turn of the search keeps, and what is known when nothing is pending.
 use Rattle.std.proofs.Common.{◌≡◌, ◌⊎◌, ℕ, ◌+◌, ◌^◌, ◌<◌, ◌≤◌, ℤ, pos, List, [], ◌∷◌, ◌++◌, length, Some, slice_get, subst, sym, ap, ◌∙◌, arith, inl, inr, length-append}
 use Rattle.std.specs.List.{All, Contains}
-use Rattle.std.proofs.lemmas.List.Elements.{All-weaker, All-get_or, All-pop, Contains-push_cases}
-use Rattle.std.proofs.lemmas.Option.{slice_get_within, slice_get_cases, get_or_from_slice_get, option_and_then_some}
+use Rattle.std.proofs.lemmas.List.Elements.{All-weaker, All-pop, Contains-push_cases}
+use Rattle.std.proofs.lemmas.Option.{slice_get_within, slice_get_cases, option_and_then_some}
 use Rattle.cx_code.specs.declared.image.Image.{Image}
 use Rattle.cx_code.specs.declared.image.Function.{Function}
 use Rattle.cx_code.specs.declared.operation.Operation.{Operation}
@@ -17,7 +17,7 @@ use Rattle.cx_reach.specs.Effects.{IsEffect, IsEffectAt}
 use Rattle.cx_reach.specs.Joins.{IsSmall, moved}
 use Rattle.cx_reach.specs.Says.{SaysDepth, Says, IsWithin, DepthsCome, IsSound, AreSound, AreSmall, work, HasJoined, HasLooked, IsClosedAt, HasBegun, IsSearched, bound_of}
 use Rattle.cx_reach.proofs.Joined.{small_more, small_moved, says_moved, moved_come}
-use Rattle.cx_reach.proofs.Grown.{same_found, found_too, grown_on}
+use Rattle.cx_reach.proofs.Grown.{same_found, found_too, at_all, grown_on}
 
 -- ---- a place is looked at
 
@@ -46,9 +46,7 @@ module _ (image : Image) (function : Function) (place : ℕ) (effect : Effect) (
   small_on : (bound : ℕ) → AreSmall bound first → AreSmall (bound + 2 ^ 32) third
   small_on bound small =
       let weaker = All-weaker (λ (a : Arrival). IsSmall bound a.depths) (λ (a : Arrival). IsSmall (bound + 2 ^ 32) a.depths) (λ a is. small_more bound (bound + 2 ^ 32) (omega arith) a.depths is) first small in
-      let was : IsSmall bound known.depths =
-      subst (λ (a : Arrival). IsSmall bound a.depths) (get_or_from_slice_get first place known known found)
-      (All-get_or (λ (a : Arrival). IsSmall bound a.depths) first place known (slice_get_within first place known found) small) in
+      let was : IsSmall bound known.depths = at_all (λ (a : Arrival). IsSmall bound a.depths) first place known small found in
       let is : IsSmall (bound + 2 ^ 32) arrival.depths =
       subst (λ (a : Arrival). IsSmall (bound + 2 ^ 32) a.depths) (sym handed) (small_moved bound effect.taken effect.given few less known.depths was) in
       jump.small (bound + 2 ^ 32) is (behind.small (bound + 2 ^ 32) is weaker)

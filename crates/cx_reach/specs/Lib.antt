@@ -3,3 +3,4 @@ pub mod Says
 pub mod Joins
 pub mod Effects
 pub mod Agreement
+pub mod Broken
