@@ -5,3 +5,4 @@ mod Turns
 mod Agreeing
 mod Unbroken
 mod Kept
+mod Ordered

@@ -4,3 +4,4 @@ pub mod Joins
 pub mod Effects
 pub mod Agreement
 pub mod Broken
+pub mod Order
