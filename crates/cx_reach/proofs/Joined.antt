@@ -8,7 +8,7 @@ use Rattle.cx_code.specs.Reached.{Origin, Plain, Cleanup}
 use Rattle.cx_reach.specs.declared.arriving.Arrival.{Arrival}
 use Rattle.cx_reach.specs.declared.arriving.Depths.{Depths}
 use Rattle.cx_reach.specs.declared.arriving.Depths.TheVariants as depths
-use Rattle.cx_reach.specs.Comes.{Comes, ComesWith}
+use Rattle.cx_reach.specs.Comes.{ComesWith, ComesFrom}
 use Rattle.cx_reach.specs.Joins.{JoinsDepths, IsJoin, moved, IsSmall}
 use Rattle.cx_reach.specs.Says.{SaysDepth, SaysOrigin, IsWithin, DepthsCome, IsSound, depths_room, room_of}
 
@@ -68,8 +68,8 @@ flag_comes P a b both is x y holds = elim (or_cases a b (sym is ∙ holds)) [ in
 pub sound_join : (image : Image) (function : Function) (place : ℕ) (a b both : Arrival) → IsJoin a b both → IsSound image function place a → IsSound image function place b → IsSound image function place both
 sound_join image function place a b both is x y = record {
   depths = depths_come image function place a.depths b.depths both.depths is.depths x.depths y.depths;
-  plain = flag_comes ((depth : ℤ) × Comes image function Plain place depth) a.plain b.plain both.plain is.plain x.plain y.plain;
-  cleanup = flag_comes ((depth : ℤ) × Comes image function Cleanup place depth) a.cleanup b.cleanup both.cleanup is.cleanup x.cleanup y.cleanup;
+  plain = flag_comes (ComesFrom image function Plain place) a.plain b.plain both.plain is.plain x.plain y.plain;
+  cleanup = flag_comes (ComesFrom image function Cleanup place) a.cleanup b.cleanup both.cleanup is.cleanup x.cleanup y.cleanup;
 }
 
 -- ---- how much can still grow

@@ -1,5 +1,5 @@
 -- This defines at which items of an image a rule of a valid image is broken, for a check that names the first such item; it is this project's own.
-use Rattle.std.specs.Prelude.{◌≡◌, ◌≢◌, ◌⊎◌, ◌↔◌, ℕ, ◌+◌, ◌<◌, ◌≤◌, ℤ, pos, ◌<ℤ◌, List, length, Some, IfSome, slice_get}
+use Rattle.std.specs.Prelude.{◌≡◌, ◌⊎◌, ◌↔◌, ℕ, ◌+◌, ◌<◌, ◌≤◌, ℤ, pos, ◌<ℤ◌, List, length, Some, IfSome, slice_get}
 use Rattle.cx_code.specs.declared.code.Instruction.{Instruction}
 use Rattle.cx_code.specs.declared.code.Region.{Region}
 use Rattle.cx_code.specs.declared.image.Image.{Image}
@@ -12,7 +12,7 @@ use Rattle.cx_code.specs.Reached.{Plain, Cleanup, operation_at, HasIndices, take
 use Rattle.cx_code.specs.Rules.{IsInRange, HasType, HasPlaces, Overlaps, Encloses, PassesArguments, IsEntry, IsHookAt, IsValid}
 use Rattle.cx_code.specs.Storable.{IsStorable}
 use Rattle.cx_reach.specs.declared.arriving.Arrival.{Arrival}
-use Rattle.cx_reach.specs.Comes.{Comes, ComesWith, AreArrivals}
+use Rattle.cx_reach.specs.Comes.{ComesWith, ComesFrom, SeveralCome, AreArrivals}
 
 pub data Rule : Type 0 where
   V1 : Rule
@@ -37,7 +37,7 @@ pub data Item : Type 0 where
 -- two depths come to the place, or one that is below what its instruction takes or above 4,096
 abbrev pub HasBadDepth : Image → Function → ℕ → Instruction → Type 0
 HasBadDepth image function place instruction =
-    ((one : ℤ) × (other : ℤ) × (one ≢ other) × ComesWith image function place one × ComesWith image function place other)
+    SeveralCome image function place
     ⊎ (((depth : ℤ) × (operation : Operation) × ComesWith image function place depth × (operation_of instruction ≡ Some operation) × (depth <ℤ pos (taken_count function operation)))
     ⊎ ((depth : ℤ) × ComesWith image function place depth × (pos 4096 <ℤ depth)))
 
@@ -47,18 +47,12 @@ RunsOff image function place instruction =
     (depth : ℤ) × (operation : Operation) × (next : ℕ) × ComesWith image function place depth × (operation_of instruction ≡ Some operation) × HasIndices image operation
     × Follows operation place next × (length function.code ≤ next)
 
-abbrev pub ComesPlainly : Image → Function → ℕ → Type 0
-ComesPlainly image function place = (depth : ℤ) × Comes image function Plain place depth
-
-abbrev pub ComesFromCleanup : Image → Function → ℕ → Type 0
-ComesFromCleanup image function place = (depth : ℤ) × Comes image function Cleanup place depth
-
 -- the place is reached from both, or `resume` stands where no Cleanup leads, or `return` where one does
 abbrev pub HasBadOrigin : Image → Function → ℕ → Instruction → Type 0
 HasBadOrigin image function place instruction =
-    (ComesPlainly image function place × ComesFromCleanup image function place)
-    ⊎ (((operation_of instruction ≡ Some does.Resume) × ¬ ComesFromCleanup image function place)
-    ⊎ ((operation_of instruction ≡ Some does.Return) × ComesFromCleanup image function place))
+    (ComesFrom image function Plain place × ComesFrom image function Cleanup place)
+    ⊎ (((operation_of instruction ≡ Some does.Resume) × ¬ ComesFrom image function Cleanup place)
+    ⊎ ((operation_of instruction ≡ Some does.Return) × ComesFrom image function Cleanup place))
 
 abbrev pub BreaksAt : Image → Function → ℕ → Instruction → Rule → Type 0
 BreaksAt image function place instruction V1 = ¬ IsInRange image (operation_of instruction)

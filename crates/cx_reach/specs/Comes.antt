@@ -28,17 +28,25 @@ pub data Comes (image : Image) (function : Function) : Origin → ℕ → ℤ �
 abbrev pub ComesWith : Image → Function → ℕ → ℤ → Type 0
 ComesWith image function place depth = (origin : Origin) × Comes image function origin place depth
 
+-- it is reached from there
+abbrev pub ComesFrom : Image → Function → Origin → ℕ → Type 0
+ComesFrom image function origin place = (depth : ℤ) × Comes image function origin place depth
+
+-- it is reached with two different numbers of operands
+abbrev pub SeveralCome : Image → Function → ℕ → Type 0
+SeveralCome image function place = (one : ℤ) × (other : ℤ) × (one ≢ other) × ComesWith image function place one × ComesWith image function place other
+
 -- these are all depths that come to the place, as far as can be told of none, one and several
 abbrev pub AreDepths : Image → Function → ℕ → Depths → Type 0
 AreDepths image function place depths.None = (depth : ℤ) → ComesWith image function place depth → ⊥
 AreDepths image function place (depths.One depth) = ComesWith image function place depth × ((other : ℤ) → ComesWith image function place other → other ≡ depth)
-AreDepths image function place depths.Several = (one : ℤ) × (other : ℤ) × (one ≢ other) × ComesWith image function place one × ComesWith image function place other
+AreDepths image function place depths.Several = SeveralCome image function place
 
 -- how a place is reached
 pub record IsArrival (image : Image) (function : Function) (place : ℕ) (arrival : Arrival) : Type 0 where
   pub depths : AreDepths image function place arrival.depths
-  pub plain : IsTrue arrival.plain ↔ ((depth : ℤ) × Comes image function Plain place depth)
-  pub cleanup : IsTrue arrival.cleanup ↔ ((depth : ℤ) × Comes image function Cleanup place depth)
+  pub plain : IsTrue arrival.plain ↔ ComesFrom image function Plain place
+  pub cleanup : IsTrue arrival.cleanup ↔ ComesFrom image function Cleanup place
 
 -- one for each place of the code
 pub record AreArrivals (image : Image) (function : Function) (arrivals : List Arrival) : Type 0 where

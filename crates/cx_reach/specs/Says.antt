@@ -1,5 +1,5 @@
 -- This defines what an arrival says of a place, while the places are still searched; it is this project's own.
-use Rattle.std.specs.Prelude.{◌≡◌, ◌≢◌, ◌⊎◌, ℕ, ◌+◌, ◌*◌, ◌-◌, ◌^◌, ◌<◌, ◌≤◌, ℤ, pos, List, length, sum_by, Option, Some, IsTrue, slice_get, if◌then◌else◌}
+use Rattle.std.specs.Prelude.{◌≡◌, ◌⊎◌, ℕ, ◌+◌, ◌*◌, ◌-◌, ◌^◌, ◌<◌, ◌≤◌, ℤ, pos, List, length, sum_by, Option, Some, IsTrue, slice_get, if◌then◌else◌}
 use Rattle.std.specs.List.{All, Contains}
 use Rattle.cx_code.specs.declared.code.Region.{Region}
 use Rattle.cx_code.specs.declared.image.Image.{Image}
@@ -9,7 +9,7 @@ use Rattle.cx_code.specs.Reached.{Origin, Plain, Cleanup, origin_of, operation_a
 use Rattle.cx_reach.specs.declared.arriving.Arrival.{Arrival}
 use Rattle.cx_reach.specs.declared.arriving.Depths.{Depths}
 use Rattle.cx_reach.specs.declared.arriving.Depths.TheVariants as depths
-use Rattle.cx_reach.specs.Comes.{Comes, ComesWith, left_behind}
+use Rattle.cx_reach.specs.Comes.{ComesWith, ComesFrom, SeveralCome, left_behind}
 use Rattle.cx_reach.specs.Joins.{IsSmall}
 
 abbrev pub SaysDepth : Depths → ℤ → Type 0
@@ -34,12 +34,12 @@ IsWithin a b = (origin : Origin) (depth : ℤ) → Says a origin depth → Says 
 abbrev pub DepthsCome : Image → Function → ℕ → Depths → Type 0
 DepthsCome image function place depths.None = Unit {0}
 DepthsCome image function place (depths.One depth) = ComesWith image function place depth
-DepthsCome image function place depths.Several = (one : ℤ) × (other : ℤ) × (one ≢ other) × ComesWith image function place one × ComesWith image function place other
+DepthsCome image function place depths.Several = SeveralCome image function place
 
 pub record IsSound (image : Image) (function : Function) (place : ℕ) (arrival : Arrival) : Type 0 where
   pub depths : DepthsCome image function place arrival.depths
-  pub plain : IsTrue arrival.plain → (depth : ℤ) × Comes image function Plain place depth
-  pub cleanup : IsTrue arrival.cleanup → (depth : ℤ) × Comes image function Cleanup place depth
+  pub plain : IsTrue arrival.plain → ComesFrom image function Plain place
+  pub cleanup : IsTrue arrival.cleanup → ComesFrom image function Cleanup place
 
 abbrev pub AreSound : Image → Function → List Arrival → Type 0
 AreSound image function arrivals = (place : ℕ) (arrival : Arrival) → slice_get arrivals place ≡ Some arrival → IsSound image function place arrival

@@ -9,9 +9,12 @@ use cx_code::{Function, Image, Region};
 use cx_outside::NoMemory;
 use std::alloc::Global;
 
-/// How each place of a function's code is reached, by the place. An instruction whose numbers or
-/// index are out of range leads nowhere, and a place outside the code isn't followed. In time linear
-/// in the code and the regions. `NoMemory` where memory for it is lacking. (This project's own.)
+/// How each place of a function's code is reached, by the place, from the start and from the targets
+/// of its regions. The indices of its instructions are those of the image's tables, whether the
+/// function is one of the image or not. An instruction whose numbers or index are out of range leads
+/// nowhere, and a place outside the code isn't followed. In time linear in the code and the regions.
+/// `NoMemory` where memory for the arrivals, or for the places that are to be looked at, is lacking.
+/// (This project's own.)
 pub fn arrivals(alloc: Global, image: &Image, function: &Function) -> Result<Vec<Arrival>, NoMemory>
     ensures { IfOk result (λ arrivals. AreArrivals image.now function.now arrivals.items) }
 {
