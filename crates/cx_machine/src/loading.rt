@@ -41,6 +41,7 @@ pub fn load(alloc: Global, image: &Image) -> Result<Program, NoMemory>
 }
 
 /// What was found out of the function of this index.
+#[inline(always)]
 pub fn routine_at<'a>(image: &Image, program: &'a Program, index: u32) -> &'a Routine
     requires loaded { IsLoaded image.now program.now }
     requires within { index < length image.now.functions }
