@@ -46,7 +46,7 @@ impl Machine {
         ensures thrown { self.new.thrown ≡ self.old.thrown }
     {
         let function = function_at(image, index);
-        if self.is_too_deep(image, function) {
+        if self.is_too_deep(function) {
             return Err(Stop::Ended(Ending::TooDeep));
         }
         let operands = &mut self.frame.operands;
@@ -58,7 +58,7 @@ impl Machine {
             slots,
             pending: Exceptions::new(alloc),
         };
-        self.cover(image, callee, function.counted)?;
+        self.cover(callee, function.counted)?;
         Ok(event)
     }
 
@@ -86,27 +86,22 @@ impl Machine {
 
     /// Whether a call of a function is one too many.
     #[inline(always)]
-    fn is_too_deep(&self, image: &Image, function: &Function) -> bool
-        requires { IsCounted image.now self.now }
-        ensures value { (store : Store) → result ≡ is_too_deep image.now (state_of self.now store) function.now }
+    fn is_too_deep(&self, function: &Function) -> bool
+        ensures value { (image : Image) (store : Store) → IsCounted image self.now → result ≡ is_too_deep image (state_of self.now store) function.now }
         ensures few { OnFalse result (function.now.counted ≡ true → self.now.counted < 4096) }
     {
-        let _ = image;
         function.counted && self.counted >= DEPTH
     }
 
     /// A frame comes on top, of a function that counts for the depth or doesn't.
     #[inline(always)]
-    fn cover(&mut self, image: &Image, callee: Frame, is_counted: bool) -> Result<(), Stop>
-        requires its { is_counted ≡ counts (slice_get image.now.functions callee.function) }
-        requires counted { IsCounted image.now self.old }
+    fn cover(&mut self, callee: Frame, is_counted: bool) -> Result<(), Stop>
         requires few { is_counted ≡ true → self.old.counted < 4096 }
         ensures ok { OnOk result (self.new ≡ record self.old { frame = callee; below = frame_in self.old.frame ∷ self.old.below; counted = self.new.counted }) }
         ensures err { (made : _) → IfErr result (λ stop. IsStop stop made) }
-        ensures counted { OnOk result (IsCounted image.now self.new) }
+        ensures counted { (image : Image) → is_counted ≡ counts (slice_get image.functions callee.function) → IsCounted image self.old → OnOk result (IsCounted image self.new) }
         ensures thrown { self.new.thrown ≡ self.old.thrown }
     {
-        let _ = image;
         let caller = mem::replace(&mut self.frame, callee);
         self.below.push(caller)?;
         if is_counted {
