@@ -1,4 +1,6 @@
-ghost use Rattle.std.specs.Prelude.{◌≡◌, ◌≤◌, [], ◌∷◌, length, take, drop, reverse, IfOk, OnOk, OnErr};
+ghost use Rattle.std.specs.Prelude.{◌≡◌, ◌≤◌, [], ◌∷◌, ◌++◌, length, take, drop, reverse, IfOk, OnOk, OnErr};
+ghost use Rattle.std.specs.Bool.{OnTrue, OnFalse};
+ghost use Rattle.cx_code.specs.declared.run.Value.TheVariants.{Null};
 ghost use Rattle.cx_code.specs.State.{slots_of};
 ghost use Rattle.cx_code.specs.Unwind.{cut};
 
@@ -45,23 +47,10 @@ impl Operands {
         ensures ok { OnOk result (self.new ≡ value ∷ self.old) }
         ensures err { OnErr result (self.new ≡ self.old) }
     {
-        if self.top < self.values.len() {
-            self.values[self.top] = value;
-            self.top += 1;
-            return Ok(());
+        if self.top == self.values.len() && !has_grown(&mut self.values) {
+            return Err(NoMemory);
         }
-        self.grow(value)
-    }
-
-    /// Adds an operand where the list has no room for it.
-    #[cold]
-    #[inline(never)]
-    fn grow(&mut self, value: Value) -> Result<(), NoMemory>
-        ensures ok { OnOk result (self.new ≡ value ∷ self.old) }
-        ensures err { OnErr result (self.new ≡ self.old) }
-    {
-        self.values.truncate(self.top);
-        self.values.push(value)?;
+        self.values[self.top] = value;
         self.top += 1;
         Ok(())
     }
@@ -111,6 +100,19 @@ impl Operands {
         let made = slots_with(alloc, &self.values[start..self.top], slots as usize)?;
         self.top = start;
         Ok(made)
+    }
+}
+
+/// Makes a list of values longer by one. The answer is false, and nothing is changed, where there is no memory.
+#[cold]
+#[inline(never)]
+fn has_grown(values: &mut Vec<Value>) -> bool
+    ensures longer { OnTrue result (values.new.items ≡ values.old.items ++ Null ∷ []) }
+    ensures same { OnFalse result (values.new.items ≡ values.old.items) }
+{
+    match values.push(Value::Null) {
+        Ok(()) => true,
+        Err(_) => false,
     }
 }
 

@@ -133,6 +133,7 @@ impl Input {
     }
 
     /// The next byte, which is taken, if one is left.
+    #[inline(always)]
     pub fn take(&mut self) -> Option<u8>
         ensures { MatchOption result ((self.old ≡ []) × (self.new ≡ [])) (λ byte. self.old ≡ byte ∷ self.new) }
     {
