@@ -45,9 +45,9 @@ written_at : (objects : List (Option (Vec (Option Value)))) (number m : ℕ) (bl
 written_at objects number m block some within =
     written_apart (m == 0) (m == number) block objects (set objects (number - 1) (Some block)) m (λ none. grind (arith, nat_tests))
     (λ (other : (m == 0) ≡ false).
-      let more : m ≢ 0 = grind (arith, nat_tests) in
-      ap leaves_in (slice_get_set objects (number - 1) (m - 1) (Some block) (omega arith)) ∙ apart ((m - 1) == (number - 1)) block (slice_get objects (m - 1))
-      ∙ ap (λ (b : Bool). if b then Some block.items else leaves_in (slice_get objects (m - 1))) (same_test number m some more))
+    let more : m ≢ 0 = grind (arith, nat_tests) in
+    ap leaves_in (slice_get_set objects (number - 1) (m - 1) (Some block) (omega arith)) ∙ apart ((m - 1) == (number - 1)) block (slice_get objects (m - 1))
+    ∙ ap (λ (b : Bool). if b then Some block.items else leaves_in (slice_get objects (m - 1))) (same_test number m some more))
 
 done_or_not : (store new : Store) (number : ℕ) (leaves : Leaves) (done : Bool) → changed store.leaves number (Some leaves) ≡ new.leaves → new.next ≡ store.next
     → written_leaf store number (if done then Some leaves else None) ≡ (if done then Some new else None)
@@ -81,6 +81,6 @@ pub stored_same : (objects : List (Option (Vec (Option Value)))) (number : ℕ) 
     → slice_get objects (number - 1) ≡ Some (Some old) → block.items ≡ old.items → leaves_at (set objects (number - 1) (Some block)) ≡ leaves_at objects
 stored_same objects number old block some within found same =
     fun_ext (λ m. written_at objects number m block some within
-      ∙ leaves_same (m == number) block.items (leaves_at objects m) (λ (e : (m == number) ≡ true).
-        let at : m ≡ number = grind (arith, nat_tests) in
-        ap (leaves_at objects) at ∙ leaves_here objects number (Some old) some found ∙ ap Some (sym same)))
+    ∙ leaves_same (m == number) block.items (leaves_at objects m) (λ (e : (m == number) ≡ true).
+    let at : m ≡ number = grind (arith, nat_tests) in
+    ap (leaves_at objects) at ∙ leaves_here objects number (Some old) some found ∙ ap Some (sym same)))

@@ -24,8 +24,8 @@ returns-in-Some-clause-dead c =
     let found : slice_get objects (c.args.number - 1) ≡ Some (Some c.in-Some.leaves) = slice_get_read objects (length objects) (c.args.number - 1) (Some c.in-Some.leaves) refl (omega (arith, within, c.if-number-eq0.false)) (rw c.in-Some.is at c.index_mut.ensures.value) in
     let block = with_items c.in-Some.leaves c.write_leaf.new.leaves in
     OnFalse_from c.write_leaf.result _ (λ off.
-      let same = with_items_is c.in-Some.leaves c.write_leaf.new.leaves (c.write_leaf.auto.leaves ∙ c.deref_mut.ensures.len) ∙ OnFalse_at off c.write_leaf.ensures.outside ∙ c.deref_mut.ensures.value in
-      rw (length-set, stored_same objects c.args.number c.in-Some.leaves block c.if-number-eq0.false within found same) refl)
+    let same = with_items_is c.in-Some.leaves c.write_leaf.new.leaves (c.write_leaf.auto.leaves ∙ c.deref_mut.ensures.len) ∙ OnFalse_at off c.write_leaf.ensures.outside ∙ c.deref_mut.ensures.value in
+    rw (length-set, stored_same objects c.args.number c.in-Some.leaves block c.if-number-eq0.false within found same) refl)
 
 pub returns-in-None-clause-stored : goal.returns-in-None-clause-stored
 returns-in-None-clause-stored c =
