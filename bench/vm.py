@@ -7,9 +7,8 @@ bits and of 128, and against Lua on a loop that does the same. Each is run long 
 the difference of the least user times of five rounds, so that neither starting nor loading counts. Needs rt and cc,
 and lua5.4 for the last column (`apt-get install -y lua5.4`). It builds once, which takes some minutes.
 
-usage: bench/vm.py [FOLDER]     FOLDER keeps the build for the next run
+usage: bench/vm.py [FOLDER]     FOLDER keeps the build, of the crates as they are then, for the next run
 """
-import os
 import pathlib
 import re
 import resource
@@ -86,7 +85,7 @@ class Case:
         self.regions, self.beside, self.input_size = regions, beside, input_size
 
 
-# A turn asks whether a slot or an object is below the last number, and adds 1 to it.
+# Each but the last counts its turns: in an object, and from then on in a slot. The last one reads till the end.
 CASES = [
     Case("counting", 120_000_000,
          "9 1 0, 7 0 0, 1 0 0, 12 0 0, 7 0 0, 11 0 0, 1 0 10000000, 30 0 0, 36 16 0, 7 0 0, 7 0 0, 11 0 0, 1 0 1, "
@@ -217,7 +216,6 @@ def main():
     kept = len(sys.argv) > 1
     folder = pathlib.Path(sys.argv[1] if kept else tempfile.mkdtemp()).resolve()
     folder.mkdir(parents=True, exist_ok=True)
-    os.environ["TMPDIR"] = str(folder)
     try:
         machine = build(folder)
         c64 = build_c(folder, "vm64", "long long")
