@@ -23,10 +23,11 @@ body_of (forms.Helper body) = Some body
 body_of forms.Declared = None
 
 abbrev pub instruction_count : FunctionForm → ℕ
-instruction_count form = body_count (body_of form) where
-  abbrev body_count : Option FunctionBody → ℕ
-  body_count None = 0
-  body_count (Some body) = length body.code
+instruction_count forms.Needed = 0
+instruction_count (forms.Defined body) = length body.code
+instruction_count (forms.Inline tokens body) = length body.code
+instruction_count (forms.Helper body) = length body.code
+instruction_count forms.Declared = 0
 
 -- what an instruction's first number must be below where it is an index into a table of the object: of `call`, `global`, `text_at` of a text by its index plus 1, `begin`, `verdict`, `violate`, `throw`, `destroyed`
 abbrev pub index_bound : Object → ℕ → Option ℕ

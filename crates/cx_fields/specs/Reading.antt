@@ -1,0 +1,101 @@
+-- Reading a file field by field from the left, with the first fault that is met; the format is this project's own.
+use Rattle.std.specs.Prelude.{◌≡◌, ℕ, zero, suc, ◌+◌, ◌<◌, ◌^◌, ◌==◌, ◌&&◌, ◌||◌, nat_lt, nat_le, List, [], ◌∷◌, length, take, drop, Bool, if◌then◌else◌, Result, Ok, Err, slice_index}
+use Rattle.std.specs.Int.{w32, from_be_bytes}
+use Rattle.cx_fields.specs.declared.fault.BytesFault.{BytesFault}
+use Rattle.cx_fields.specs.declared.fault.Why.{Why}
+use Rattle.cx_fields.specs.declared.fault.Why.TheVariants.{Magic, Version, Cut, Limit, Range, Index, Trailing}
+use Rattle.cx_fields.specs.declared.fault.ReadFault.{ReadFault}
+use Rattle.cx_fields.specs.declared.fault.ReadFault.TheVariants as faults
+use Rattle.cx_fields.specs.declared.rest.Rest.{Rest}
+
+abbrev pub why_number : Why → ℕ
+why_number Magic = 1
+why_number Version = 2
+why_number Cut = 3
+why_number Limit = 4
+why_number Range = 5
+why_number Index = 6
+why_number Trailing = 7
+
+-- the bytes of a file that are not read yet, and the place of the first of them
+pub record Unread : Type 0 where
+  pub at : ℕ
+  pub bytes : List ℕ
+
+-- a reading takes a value from the front, or meets a fault
+abbrev pub Reading : Type 0 → Type 0
+Reading A = Unread → Result (A × Unread) BytesFault
+
+abbrev pub continued : {A B : Type 0} → Result (A × Unread) BytesFault → (A → Reading B) → Result (B × Unread) BytesFault
+continued (Ok read) next = next read.0 read.1
+continued (Err fault) next = Err fault
+
+infixl 10 ◌>>=◌
+abbrev pub ◌>>=◌ : {A B : Type 0} → Reading A → (A → Reading B) → Reading B
+(first >>= next) rest = continued (first rest) next
+
+abbrev pub give : {A : Type 0} → A → Reading A
+give value rest = Ok (value, rest)
+
+abbrev pub fault : {A : Type 0} → ℕ → Why → Result A BytesFault
+fault at why = Err (record { at = at; why = why })
+
+-- a field of so many bytes: it isn't cut, and ends within the largest file
+unfoldable pub bytes_at : ℕ → Reading (List ℕ)
+bytes_at count rest =
+    if nat_lt (length rest.bytes) count then fault rest.at Cut else
+    if nat_lt 134217728 (rest.at + count) then fault rest.at Limit else
+    Ok (take count rest.bytes, record { at = rest.at + count; bytes = drop count rest.bytes })
+
+-- what was read at a place, where it passes a test
+abbrev pub allowed : {A : Type 0} → (A → Bool) → Why → ℕ → Result (A × Unread) BytesFault → Result (A × Unread) BytesFault
+allowed test why at (Ok read) = if test read.0 then Ok read else fault at why
+allowed test why at (Err other) = Err other
+
+-- a field whose value must pass a test
+abbrev pub judged : {A : Type 0} → (A → Bool) → Why → Reading A → Reading A
+judged test why field rest = allowed test why rest.at (field rest)
+
+unfoldable pub byte_at : Reading ℕ
+byte_at = do
+  bytes ← bytes_at 1
+  give (slice_index bytes 0)
+
+unfoldable pub number_at : Reading ℕ
+number_at = do
+  bytes ← bytes_at 4
+  give (from_be_bytes w32 bytes)
+
+abbrev pub is_between : ℕ → ℕ → ℕ → Bool
+is_between low end n = nat_le low n && nat_lt n end
+
+-- a number from low up to the one before end
+unfoldable pub number_in : ℕ → ℕ → Why → Reading ℕ
+number_in low end why = judged (is_between low end) why number_at
+
+unfoldable pub byte_in : ℕ → ℕ → Reading ℕ
+byte_in low end = judged (is_between low end) Range byte_at
+
+-- a text: its length, and its bytes
+unfoldable pub text_at : Reading (List ℕ)
+text_at = do
+  count ← number_in 0 134217729 Limit
+  bytes_at count
+
+unfoldable pub flag_at : Reading Bool
+flag_at = do
+  value ← byte_in 0 2
+  give (value == 1)
+
+-- what a function returned, seen by view, is what reading gives, unless memory ran out
+abbrev pub Fails : {Y : Type 0} → ReadFault → Result Y BytesFault → Type 0
+Fails faults.OutOfMemory read = Unit {0}
+Fails (faults.Bad fault) read = read ≡ Err fault
+
+abbrev pub Gives : {X Y : Type 0} → (X → Y) → Result X ReadFault → Result Y BytesFault → Type 0
+Gives view (Ok x) read = read ≡ Ok (view x)
+Gives view (Err e) read = Fails e read
+
+-- what the program's reader hasn't read
+abbrev pub unread : Rest → Unread
+unread rest = record { at = rest.at; bytes = rest.bytes.now }

@@ -1,0 +1,78 @@
+ghost use Rattle.std.specs.Prelude.{◌≡◌, length, IfOk};
+ghost use Rattle.cx_fields.specs.Reading.{Gives, unread, bytes_at, byte_at, number_at, number_in, byte_in, text_at, flag_at};
+ghost use Rattle.cx_fields.specs.declared.fault.ReadFault.TheVariants.{Bad};
+
+use crate::fault::{BytesFault, ReadFault, Why};
+use byteorder::{BigEndian, ByteOrder};
+use cx_outside::Text;
+use std::alloc::Global;
+
+/// No file has more bytes than this.
+const FILE_LIMIT: usize = 134_217_728;
+
+/// The bytes of a file that are not read yet, with their place. (This project's own.)
+#[derive(Clone, Copy, Debug)]
+pub struct Rest<'a> {
+    at: u32,
+    bytes: &'a [u8],
+}
+
+impl<'a> Rest<'a> {
+    fn fault(self, why: Why) -> ReadFault
+        ensures { result ≡ Bad (record { at = self.entry.at; why = why }) }
+    {
+        ReadFault::Bad(BytesFault { at: self.at, why })
+    }
+
+    #[tactic(auto, unfolding(crate::specs::Reading::bytes_at))]
+    fn bytes_of(self, count: usize) -> Result<(&'a [u8], Rest<'a>), ReadFault>
+        ensures reads { Gives (λ x. (x.0.now, unread x.1)) result (bytes_at count (unread self.entry)) }
+        ensures length { IfOk result (λ x. length x.0.now ≡ count) }
+    {
+        if self.bytes.len() < count {
+            return Err(self.fault(Why::Cut));
+        }
+        if self.at as usize > FILE_LIMIT || count > FILE_LIMIT - self.at as usize {
+            return Err(self.fault(Why::Limit));
+        }
+        let (field, bytes) = self.bytes.split_at(count);
+        let at = self.at + count as u32;
+        Ok((field, Rest { at, bytes }))
+    }
+
+    #[tactic(auto, unfolding(crate::specs::Reading::byte_at))]
+    fn byte(self) -> Result<(u8, Rest<'a>), ReadFault>
+        ensures { Gives (λ x. (x.0, unread x.1)) result (byte_at (unread self.entry)) }
+    {
+        let (bytes, rest) = self.bytes_of(1)?;
+        Ok((bytes[0], rest))
+    }
+
+    #[tactic(auto, unfolding(crate::specs::Reading::number_at))]
+    fn number(self) -> Result<(u32, Rest<'a>), ReadFault>
+        ensures { Gives (λ x. (x.0, unread x.1)) result (number_at (unread self.entry)) }
+    {
+        let (bytes, rest) = self.bytes_of(4)?;
+        Ok((BigEndian::read_u32(bytes), rest))
+    }
+
+    #[tactic(auto, unfolding(crate::specs::Reading::number_in))]
+    fn number_in(self, low: u32, end: u64, why: Why) -> Result<(u32, Rest<'a>), ReadFault>
+        ensures { Gives (λ x. (x.0, unread x.1)) result (number_in low end why (unread self.entry)) }
+    {
+        let (number, rest) = self.number()?;
+        if number < low || u64::from(number) >= end {
+            return Err(self.fault(why));
+        }
+        Ok((number, rest))
+    }
+
+    #[tactic(auto, unfolding(crate::specs::Reading::text_at))]
+    fn text(self, alloc: Global) -> Result<(Text, Rest<'a>), ReadFault>
+        ensures { Gives (λ x. (x.0, unread x.1)) result (text_at (unread self.entry)) }
+    {
+        let (count, rest) = self.number_in(0, 134_217_729, Why::Limit)?;
+        let (bytes, rest) = rest.bytes_of(count as usize)?;
+        Ok((Text::copy_of(alloc, bytes)?, rest))
+    }
+}
