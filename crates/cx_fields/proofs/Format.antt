@@ -1,5 +1,5 @@
 -- A reading and a spelling that are each other's inverse, and the ways to join them.
-use Rattle.std.proofs.Common.{◌≡◌, ℕ, zero, suc, ◌+◌, ◌^◌, ◌<◌, ◌≤◌, Bool, true, false, cond, ltb, List, [], ◌∷◌, ◌++◌, length, get_or, take, drop, Result, Ok, Err, refl, sym, ap, subst, ◌∙◌, append_assoc, arith, inl, inr}
+use Rattle.std.proofs.Common.{◌≡◌, ℕ, zero, suc, ◌+◌, ◌-◌, ◌^◌, ◌<◌, ◌≤◌, Bool, true, false, cond, ltb, List, [], ◌∷◌, ◌++◌, length, get_or, take, drop, Result, Ok, Err, refl, sym, ap, subst, ◌∙◌, append_assoc, arith, inl, inr}
 use Rattle.std.specs.Int.{w32, from_be_bytes, to_be_bytes}
 use Rattle.std.proofs.lemmas.Bool.{cases_lt, ltb-false, le-ltb}
 use Rattle.std.proofs.lemmas.List.{take_at, drop_at, take-append-drop, length-append, length-take, length-drop, get_or-drop, get_or-take, get_or_past, append-nil}
@@ -8,10 +8,13 @@ use Rattle.cx_fields.specs.declared.fault.BytesFault.{BytesFault}
 use Rattle.cx_fields.specs.declared.fault.Why.{Why}
 use Rattle.cx_fields.specs.declared.fault.Why.TheVariants.{Cut, Limit, Range}
 use Rattle.std.specs.Prelude.{⊤, eqb}
+use Rattle.std.specs.List.{flat_map, AllByRecursion}
+use Rattle.std.proofs.lemmas.List.{nil_from_length}
+use Rattle.std.proofs.lemmas.List.Concat.{flat_map-cons}
 use Rattle.std.proofs.lemmas.Bool.Decides.{nat_tests}
-use Rattle.cx_code.specs.Spelling.{number, flag, text}
+use Rattle.cx_code.specs.Spelling.{number, flag, text, list}
 use Rattle.cx_code.specs.Storable.{IsShort}
-use Rattle.cx_fields.specs.Reading.{Unread, Reading, continued, ◌>>=◌, give, fault, allowed, judged, is_between, bytes_at, byte_at, number_at, number_in, byte_in, text_at, flag_at}
+use Rattle.cx_fields.specs.Reading.{Unread, Reading, continued, ◌>>=◌, give, fault, allowed, judged, is_between, bytes_at, byte_at, number_at, number_in, byte_in, zero_at, text_at, flag_at, each_at, many_at, list_at}
 
 abbrev pub IsBytes : List ℕ → Type 0
 IsBytes bytes = (i : ℕ) → get_or bytes i 0 < 256
@@ -75,7 +78,7 @@ finished {C} made = record {
 }
 
 pub followed : {A C : Type 0} {f : Reading A} {s : A → List ℕ} {P : A → Type 0} {k : A → Reading C} {t : C → List ℕ} {Q : A → C → Type 0}
-    → IsFormat f s P → (part : C → A) → ((a : A) (c : C) → Q a c → part c ≡ a) → ((a : A) → P a → IsFormat (k a) t (Q a))
+    → IsFormat f s P → (part : C → A) → ((a : A) (c : C) → P a → Q a c → part c ≡ a) → ((a : A) → P a → IsFormat (k a) t (Q a))
     → IsFormat (f >>= k) (λ c. s (part c) ++ t c) (λ c. P (part c) × Q (part c) c)
 followed {A} {C} {f} {s} {P} {k} {t} {Q} first part same next = record {
   takes = λ start x fits e.
@@ -89,7 +92,7 @@ followed {A} {C} {f} {s} {P} {k} {t} {Q} first part same next = record {
       within = λ h. two.0.within (one.0.within h);
       fits = two.0.fits;
     } in
-    subst (λ (a : A). Takes start (s a ++ t x.0) x.1 × (P a × Q a x.0)) (sym (same y.0 x.0 two.1)) (both, (one.1, two.1));
+    subst (λ (a : A). Takes start (s a ++ t x.0) x.1 × (P a × Q a x.0)) (sym (same y.0 x.0 one.1 two.1)) (both, (one.1, two.1));
   again = λ value at rest h le.
     let p = part value in
     let len = length-append (s p) (t value) in
@@ -196,9 +199,13 @@ pub byte_in_format : (low end : ℕ) → IsFormat (byte_in low end) (λ b. b ∷
 unfolding byte_in
 byte_in_format low end = restated (judged_format (is_between low end) Range byte_format) (λ n h. refl) (λ n h. is_in low end n h.1) (λ n h. (tt, passes low end n h))
 
+pub zero_format : IsFormat zero_at number (λ n. n ≡ 0)
+unfolding zero_at
+zero_format = restated (number_in_format 0 1 Range) (λ n h. refl) (λ n h. omega (arith, h.0.below)) (λ n h. (record { from = omega arith; below = omega arith }, omega arith))
+
 pub text_format : IsFormat text_at text IsShort
 unfolding text_at
-text_format = restated (followed (number_in_format 0 134217729 Limit) (λ bytes. length bytes) (λ count bytes h. h) (λ count h. bytes_format count))
+text_format = restated (followed (number_in_format 0 134217729 Limit) (λ bytes. length bytes) (λ count bytes p h. h) (λ count h. bytes_format count))
   (λ bytes h. refl)
   (λ bytes h. omega (arith, h.0.0.below))
   (λ bytes h. ((record { from = omega arith; below = omega arith }, omega arith), refl))
@@ -221,3 +228,68 @@ flag_format = record {
     | false ↦ λ at rest h le. rw ((byte_in_format 0 2).again 0 at rest (record { from = omega arith; below = omega arith }) le) refl
   ];
 }
+
+-- ---- lists
+
+-- each value holds with the room that those before it left
+abbrev pub HoldsEach : {A : Type 0} → (A → ℕ) → (ℕ → A → Type 0) → ℕ → List A → Type 0
+HoldsEach weight P room [] = ⊤
+HoldsEach weight P room (x ∷ xs) = P room x × HoldsEach weight P (room - weight x) xs
+
+each_again : {A : Type 0} (weight : A → ℕ) (item : ℕ → Reading A) (s : A → List ℕ) (P : ℕ → A → Type 0) (count room : ℕ) → IsFormat (item room) s (P room)
+    → ((room : ℕ) → IsFormat (each_at weight item room count) (flat_map s) (λ xs. (length xs ≡ count) × HoldsEach weight P room xs))
+    → (xs : List A) (at : ℕ) (rest : List ℕ) → (length xs ≡ suc count) × HoldsEach weight P room xs → at + length (flat_map s xs) ≤ 134217728
+    → each_at weight item room (suc count) (record { at = at; bytes = flat_map s xs ++ rest }) ≡ Ok (xs, record { at = at + length (flat_map s xs); bytes = rest })
+unfolding each_at
+each_again weight item s P count room first others [] at rest h le = absurd (omega (arith, h.0))
+each_again {A} weight item s P count room first others (x ∷ xs) at rest h le =
+    let cons : flat_map s (x ∷ xs) ≡ s x ++ flat_map s xs = flat_map-cons s x xs in
+    let len : length (flat_map s (x ∷ xs)) ≡ length (s x) + length (flat_map s xs) = ap length cons ∙ length-append (s x) (flat_map s xs) in
+    let middle = at + length (s x) in
+    let one = first.again x at (flat_map s xs ++ rest) h.1.0 (omega (arith, len, le)) in
+    let two = (others (room - weight x)).again xs middle rest (omega (arith, h.0), h.1.1) (omega (arith, len, le)) in
+    let regrouped : flat_map s (x ∷ xs) ++ rest ≡ s x ++ (flat_map s xs ++ rest) = ap (λ (bytes : List ℕ). bytes ++ rest) cons ∙ append_assoc (s x) (flat_map s xs) rest in
+    let place : middle + length (flat_map s xs) ≡ at + length (flat_map s (x ∷ xs)) = omega (arith, len) in
+    let go : (bytes : List ℕ) → bytes ≡ s x ++ (flat_map s xs ++ rest) → each_at weight item room (suc count) (record { at = at; bytes = bytes }) ≡ Ok (x ∷ xs, record { at = middle + length (flat_map s xs); bytes = rest })
+      = λ bytes e. rw e (rw one (rw two refl)) in
+    go (flat_map s (x ∷ xs) ++ rest) regrouped ∙ ap (λ (n : ℕ). done (x ∷ xs, record { at = n; bytes = rest })) place
+
+pub each_format : {A : Type 0} (weight : A → ℕ) (item : ℕ → Reading A) (s : A → List ℕ) (P : ℕ → A → Type 0) → ((room : ℕ) → IsFormat (item room) s (P room))
+    → (count room : ℕ) → IsFormat (each_at weight item room count) (flat_map s) (λ xs. (length xs ≡ count) × HoldsEach weight P room xs)
+unfolding each_at
+each_format weight item s P format zero room = restated (finished []) (λ xs h. rw h refl) (λ xs h. rw h (refl, tt)) (λ xs h. nil_from_length xs h.0)
+each_format {A} weight item s P format (suc count) room = record {
+  takes = λ start x fits e.
+    let b = continued_ok (item room start) (λ first. each_at weight item (room - weight first) count >>= λ others. give (first ∷ others)) x e in
+    let c = continued_ok (each_at weight item (room - weight b.0.0) count b.0.1) (λ others. give (b.0.0 ∷ others)) x b.2 in
+    let one = (format room).takes start b.0 fits b.1 in
+    let two = (each_format weight item s P format count (room - weight b.0.0)).takes b.0.1 c.0 one.0.fits c.1 in
+    let len = length-append (s b.0.0) (flat_map s c.0.0) in
+    let both : Takes start (flat_map s (b.0.0 ∷ c.0.0)) c.0.1 = rw flat_map-cons (record {
+      parts = one.0.parts ∙ ap (λ (bytes : List ℕ). s b.0.0 ++ bytes) two.0.parts ∙ sym (append_assoc (s b.0.0) (flat_map s c.0.0) c.0.1.bytes);
+      place = omega (arith, one.0.place, two.0.place, len);
+      within = λ h. two.0.within (one.0.within h);
+      fits = two.0.fits;
+    }) in
+    subst (λ (y : List A × Unread). Takes start (flat_map s y.0) y.1 × ((length y.0 ≡ suc count) × HoldsEach weight P room y.0)) (ok_is (b.0.0 ∷ c.0.0, c.0.1) x c.2)
+      (both, (ap suc two.1.0, (one.1, two.1.1)));
+  again = each_again weight item s P count room (format room) (each_format weight item s P format count);
+}
+
+-- every value holds, where none has a weight
+all_hold : {A : Type 0} (P : A → Type 0) (xs : List A) → HoldsEach (λ x. 0) (λ room. P) 0 xs → AllByRecursion P xs
+all_hold P [] h = tt
+all_hold P (x ∷ xs) h = (h.0, all_hold P xs h.1)
+
+each_holds : {A : Type 0} (P : A → Type 0) (xs : List A) → AllByRecursion P xs → HoldsEach (λ x. 0) (λ room. P) 0 xs
+each_holds P [] h = tt
+each_holds P (x ∷ xs) h = (h.0, each_holds P xs h.1)
+
+pub many_format : {A : Type 0} {f : Reading A} {s : A → List ℕ} {P : A → Type 0} → IsFormat f s P → (count : ℕ) → IsFormat (many_at f count) (flat_map s) (λ xs. (length xs ≡ count) × AllByRecursion P xs)
+many_format {A} {f} {s} {P} format count = restated (each_format (λ x. 0) (λ room. f) s (λ room. P) (λ room. format) count 0)
+  (λ xs h. refl) (λ xs h. (h.0, all_hold P xs h.1)) (λ xs h. (h.0, each_holds P xs h.1))
+
+pub list_format : {A : Type 0} {f : Reading A} {s : A → List ℕ} {P : A → Type 0} → IsFormat f s P → IsFormat (list_at f) (list s) (λ xs. (length xs < 2 ^ 32) × AllByRecursion P xs)
+unfolding list_at
+list_format format = restated (followed number_format (λ xs. length xs) (λ count xs p h. h.0) (λ count h. many_format format count))
+  (λ xs h. refl) (λ xs h. (h.0, h.1.1)) (λ xs h. (h.0, (refl, h.1)))

@@ -1,1 +1,3 @@
 pub mod Format
+pub mod Loop
+pub mod PartFormats

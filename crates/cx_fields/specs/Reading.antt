@@ -1,5 +1,5 @@
 -- Reading a file field by field from the left, with the first fault that is met; the format is this project's own.
-use Rattle.std.specs.Prelude.{◌≡◌, ℕ, zero, suc, ◌+◌, ◌<◌, ◌^◌, ◌==◌, ◌&&◌, ◌||◌, nat_lt, nat_le, List, [], ◌∷◌, length, take, drop, Bool, if◌then◌else◌, Result, Ok, Err, slice_index}
+use Rattle.std.specs.Prelude.{◌≡◌, ℕ, zero, suc, ◌+◌, ◌-◌, ◌==◌, ◌&&◌, ◌||◌, nat_lt, nat_le, List, [], ◌∷◌, length, take, drop, Bool, if◌then◌else◌, Result, Ok, Err, slice_index}
 use Rattle.std.specs.Int.{w32, from_be_bytes}
 use Rattle.cx_fields.specs.declared.fault.BytesFault.{BytesFault}
 use Rattle.cx_fields.specs.declared.fault.Why.{Why}
@@ -76,6 +76,10 @@ number_in low end why = judged (is_between low end) why number_at
 unfoldable pub byte_in : ℕ → ℕ → Reading ℕ
 byte_in low end = judged (is_between low end) Range byte_at
 
+-- a number that is zero
+unfoldable pub zero_at : Reading ℕ
+zero_at = number_in 0 1 Range
+
 -- a text: its length, and its bytes
 unfoldable pub text_at : Reading (List ℕ)
 text_at = do
@@ -86,6 +90,23 @@ unfoldable pub flag_at : Reading Bool
 flag_at = do
   value ← byte_in 0 2
   give (value == 1)
+
+-- values one after the other; room is the first weight that none of them may have, and each value takes its weight of it
+unfoldable pub each_at : {A : Type 0} → (A → ℕ) → (ℕ → Reading A) → ℕ → ℕ → Reading (List A)
+each_at weight item room zero = give []
+each_at weight item room (suc count) = do
+  first ← item room
+  others ← each_at weight item (room - weight first) count
+  give (first ∷ others)
+
+abbrev pub many_at : {A : Type 0} → Reading A → ℕ → Reading (List A)
+many_at item count = each_at (λ value. 0) (λ room. item) 0 count
+
+-- a count, and so many items
+unfoldable pub list_at : {A : Type 0} → Reading A → Reading (List A)
+list_at item = do
+  count ← number_at
+  many_at item count
 
 -- what a function returned, seen by view, is what reading gives, unless memory ran out
 abbrev pub Fails : {Y : Type 0} → ReadFault → Result Y BytesFault → Type 0

@@ -1,5 +1,5 @@
 ghost use Rattle.std.specs.Prelude.{◌≡◌, length, IfOk};
-ghost use Rattle.cx_fields.specs.Reading.{Gives, unread, bytes_at, byte_at, number_at, number_in, byte_in, text_at, flag_at};
+ghost use Rattle.cx_fields.specs.Reading.{Gives, unread, bytes_at, byte_at, number_at, number_in, byte_in, zero_at, text_at, flag_at};
 ghost use Rattle.cx_fields.specs.declared.fault.ReadFault.TheVariants.{Bad};
 
 use crate::fault::{BytesFault, ReadFault, Why};
@@ -41,7 +41,7 @@ impl<'a> Rest<'a> {
     }
 
     #[tactic(auto, unfolding(crate::specs::Reading::byte_at))]
-    fn byte(self) -> Result<(u8, Rest<'a>), ReadFault>
+    pub fn byte(self) -> Result<(u8, Rest<'a>), ReadFault>
         ensures { Gives (λ x. (x.0, unread x.1)) result (byte_at (unread self.entry)) }
     {
         let (bytes, rest) = self.bytes_of(1)?;
@@ -49,7 +49,7 @@ impl<'a> Rest<'a> {
     }
 
     #[tactic(auto, unfolding(crate::specs::Reading::number_at))]
-    fn number(self) -> Result<(u32, Rest<'a>), ReadFault>
+    pub fn number(self) -> Result<(u32, Rest<'a>), ReadFault>
         ensures { Gives (λ x. (x.0, unread x.1)) result (number_at (unread self.entry)) }
     {
         let (bytes, rest) = self.bytes_of(4)?;
@@ -57,7 +57,7 @@ impl<'a> Rest<'a> {
     }
 
     #[tactic(auto, unfolding(crate::specs::Reading::number_in))]
-    fn number_in(self, low: u32, end: u64, why: Why) -> Result<(u32, Rest<'a>), ReadFault>
+    pub fn number_in(self, low: u32, end: u64, why: Why) -> Result<(u32, Rest<'a>), ReadFault>
         ensures { Gives (λ x. (x.0, unread x.1)) result (number_in low end why (unread self.entry)) }
     {
         let (number, rest) = self.number()?;
@@ -67,8 +67,34 @@ impl<'a> Rest<'a> {
         Ok((number, rest))
     }
 
+    #[tactic(auto, unfolding(crate::specs::Reading::byte_in))]
+    pub fn byte_in(self, low: u8, end: u8) -> Result<(u8, Rest<'a>), ReadFault>
+        ensures { Gives (λ x. (x.0, unread x.1)) result (byte_in low end (unread self.entry)) }
+    {
+        let (byte, rest) = self.byte()?;
+        if byte < low || byte >= end {
+            return Err(self.fault(Why::Range));
+        }
+        Ok((byte, rest))
+    }
+
+    #[tactic(auto, unfolding(crate::specs::Reading::zero_at))]
+    pub fn zero(self) -> Result<(u32, Rest<'a>), ReadFault>
+        ensures { Gives (λ x. (x.0, unread x.1)) result (zero_at (unread self.entry)) }
+    {
+        self.number_in(0, 1, Why::Range)
+    }
+
+    #[tactic(auto, unfolding(crate::specs::Reading::flag_at))]
+    pub fn flag(self) -> Result<(bool, Rest<'a>), ReadFault>
+        ensures { Gives (λ x. (x.0, unread x.1)) result (flag_at (unread self.entry)) }
+    {
+        let (byte, rest) = self.byte_in(0, 2)?;
+        Ok((byte == 1, rest))
+    }
+
     #[tactic(auto, unfolding(crate::specs::Reading::text_at))]
-    fn text(self, alloc: Global) -> Result<(Text, Rest<'a>), ReadFault>
+    pub fn text(self, alloc: Global) -> Result<(Text, Rest<'a>), ReadFault>
         ensures { Gives (λ x. (x.0, unread x.1)) result (text_at (unread self.entry)) }
     {
         let (count, rest) = self.number_in(0, 134_217_729, Why::Limit)?;
