@@ -1,3 +1,4 @@
 pub mod Format
 pub mod Loop
 pub mod PartFormats
+pub mod Whole

@@ -21,7 +21,7 @@ unfolding each_at
 goes_on weight item front room count i start x after total lt h so_far =
     let k : count - i ≡ suc (count - (i + 1)) = omega arith in
     let one : with_front front (each_at weight item room (count - i) start) ≡ with_front (front ++ x ∷ []) (each_at weight item (room - weight x) (count - (i + 1)) after)
-      = rw (k, h) (regroup front x (each_at weight item (room - weight x) (count - (i + 1)) after)) in
+    = rw (k, h) (regroup front x (each_at weight item (room - weight x) (count - (i + 1)) after)) in
     sym one ∙ so_far
 
 pub ends : {A : Type 0} (weight : A → ℕ) (item : ℕ → Reading A) (e : ReadFault) (front : List A) (room count i : ℕ) (start : Unread) (total : Result (List A × Unread) BytesFault)

@@ -26,17 +26,17 @@ pub record HoldsInstruction (bounds : Bounds) (i : Instruction) : Type 0 where
 pub instruction_format : (bounds : Bounds) → IsFormat (instruction_at bounds) instruction (HoldsInstruction bounds)
 unfolding instruction_at
 instruction_format bounds = restated
-  (followed byte_format (λ i. i.code) (λ code i p h. cc) (λ code p.
+    (followed byte_format (λ i. i.code) (λ code i p h. cc) (λ code p.
     followed (number_in_format 0 (operand_end bounds code) Index) (λ i. i.a) (λ a i p h. cc) (λ a p.
-      followed number_format (λ i. i.b) (λ b i p h. cc) (λ b p. finished (record { code = code; a = a; b = b })))))
-  (λ i h. simp (append_assoc, append-nil))
-  (λ i h. record { words = record { a = h.1.0.1; b = h.1.1.0 }; index = h.1.0.0.below })
-  (λ i h. (tt, ((record { from = omega arith; below = h.index }, h.words.a), (h.words.b, refl))))
+    followed number_format (λ i. i.b) (λ b i p h. cc) (λ b p. finished (record { code = code; a = a; b = b })))))
+    (λ i h. simp (append_assoc, append-nil))
+    (λ i h. record { words = record { a = h.1.0.1; b = h.1.1.0 }; index = h.1.0.0.below })
+    (λ i h. (tt, ((record { from = omega arith; below = h.index }, h.words.a), (h.words.b, refl))))
 
 pub code_format : (bounds : Bounds) (room : ℕ) → IsFormat (code_at bounds room) (list instruction) (λ code. (length code < room) × (length code < 2 ^ 32) × AllByRecursion (HoldsInstruction bounds) code)
 unfolding code_at
 code_format bounds room = restated (followed (number_in_format 0 room Limit) (λ code. length code) (λ count code p h. h.0) (λ count h. many_format (instruction_format bounds) count))
-  (λ code h. refl) (λ code h. (h.0.0.below, h.0.1, h.1.1)) (λ code h. ((record { from = omega arith; below = h.0 }, h.1), (refl, h.2)))
+    (λ code h. refl) (λ code h. (h.0.0.below, h.0.1, h.1.1)) (λ code h. ((record { from = omega arith; below = h.0 }, h.1), (refl, h.2)))
 
 pub record HoldsRegion (bounds : Bounds) (r : Region) : Type 0 where
   pub places : OfPlaces r
@@ -46,20 +46,20 @@ pub record HoldsRegion (bounds : Bounds) (r : Region) : Type 0 where
 pub region_format : (bounds : Bounds) → IsFormat (region_at bounds) region (HoldsRegion bounds)
 unfolding region_at
 region_format bounds = restated
-  (followed number_format (λ r. r.start) (λ start r p h. cc) (λ start p.
+    (followed number_format (λ r. r.start) (λ start r p h. cc) (λ start p.
     followed number_format (λ r. r.end) (λ end r p h. cc) (λ end p.
-      followed (byte_in_format 1 5) (λ r. r.kind) (λ kind r p h. cc) (λ kind p.
-        followed (number_in_format 0 (caught_end bounds kind) Index) (λ r. r.of) (λ of r p h. cc) (λ of p.
-          followed number_format (λ r. r.target) (λ target r p h. cc) (λ target p.
-            followed number_format (λ r. r.depth) (λ depth r p h. cc) (λ depth p.
-              finished (record { start = start; end = end; kind = kind; of = of; target = target; depth = depth }))))))))
-  (λ r h. simp (append_assoc, append-nil))
-  (λ r h. record {
-    places = record { start = h.0; end = h.1.0; of = h.1.1.1.0.1; target = h.1.1.1.1.0; depth = h.1.1.1.1.1.0 };
-    storable = record { some_kind = h.1.1.0.from; kind = omega (arith, h.1.1.0.below) };
-    index = h.1.1.1.0.0.below;
-  })
-  (λ r h. (h.places.start, (h.places.end, (record { from = h.storable.some_kind; below = omega (arith, h.storable.kind) }, ((record { from = omega arith; below = h.index }, h.places.of), (h.places.target, (h.places.depth, refl)))))))
+    followed (byte_in_format 1 5 Range) (λ r. r.kind) (λ kind r p h. cc) (λ kind p.
+    followed (number_in_format 0 (caught_end bounds kind) Index) (λ r. r.of) (λ of r p h. cc) (λ of p.
+    followed number_format (λ r. r.target) (λ target r p h. cc) (λ target p.
+    followed number_format (λ r. r.depth) (λ depth r p h. cc) (λ depth p.
+    finished (record { start = start; end = end; kind = kind; of = of; target = target; depth = depth }))))))))
+    (λ r h. simp (append_assoc, append-nil))
+    (λ r h. record {
+      places = record { start = h.0; end = h.1.0; of = h.1.1.1.0.1; target = h.1.1.1.1.0; depth = h.1.1.1.1.1.0 };
+      storable = record { some_kind = h.1.1.0.from; kind = omega (arith, h.1.1.0.below) };
+      index = h.1.1.1.0.0.below;
+    })
+    (λ r h. (h.places.start, (h.places.end, (record { from = h.storable.some_kind; below = omega (arith, h.storable.kind) }, ((record { from = omega arith; below = h.index }, h.places.of), (h.places.target, (h.places.depth, refl)))))))
 
 high_half : Initial → ℕ
 high_half (initials.Number high low) = high
@@ -99,13 +99,13 @@ holds_null initials.Null h = refl
 value_format : (sort : ℕ) → IsIn 0 2 sort → IsFormat (value_at sort) halves (λ value. OfHalves value × (sort_code value ≡ sort))
 unfolding value_at high_half low_half
 value_format zero p = restated
-  (followed number_format high_half (λ high value p h. ap high_half h.1) (λ high p.
+    (followed number_format high_half (λ high value p h. ap high_half h.1) (λ high p.
     followed number_format low_half (λ low value p h. ap low_half h) (λ low p. finished (initials.Number high low))))
-  (λ value h. simp append-nil) number_holds holds_number
+    (λ value h. simp append-nil) number_holds holds_number
 value_format (suc zero) p = restated
-  (followed zero_format high_half (λ high value p h. ap high_half h.1 ∙ sym p) (λ high p.
+    (followed zero_format high_half (λ high value p h. ap high_half h.1 ∙ sym p) (λ high p.
     followed zero_format low_half (λ low value p h. ap low_half h ∙ sym p) (λ low p. finished initials.Null)))
-  (λ value h. simp append-nil) (λ value h. null_holds value h.1.1) (λ value h. let e = holds_null value h in (ap high_half e, (ap low_half e, e)))
+    (λ value h. simp append-nil) (λ value h. null_holds value h.1.1) (λ value h. let e = holds_null value h in (ap high_half e, (ap low_half e, e)))
 value_format (suc (suc sort)) p = absurd (omega (arith, p.below))
 
 initial_spelled : (value : Initial) → (sort_code value ∷ []) ++ halves value ≡ initial value
@@ -120,8 +120,8 @@ sort_in initials.Null = record { from = omega arith; below = omega arith }
 
 pub initial_format : IsFormat initial_at initial OfHalves
 unfolding initial_at
-initial_format = restated (followed (byte_in_format 0 2) sort_code (λ sort value p h. h.1) (λ sort p. value_format sort p))
-  (λ value h. initial_spelled value) (λ value h. h.1.0) (λ value h. (sort_in value, (h, refl)))
+initial_format = restated (followed (byte_in_format 0 2 Range) sort_code (λ sort value p h. h.1) (λ sort p. value_format sort p))
+    (λ value h. initial_spelled value) (λ value h. h.1.0) (λ value h. (sort_in value, (h, refl)))
 
 -- ---- assertions
 
@@ -153,20 +153,40 @@ pub record HoldsAssertion (bounds : Bounds) (a : Assertion) : Type 0 where
 pub assertion_format : (bounds : Bounds) → IsFormat (assertion_at bounds) assertion (HoldsAssertion bounds)
 unfolding assertion_at
 assertion_format bounds = restated
-  (followed (number_in_format 0 bounds.functions Index) (λ a. a.function) (λ function a p h. cc) (λ function p.
-    followed (byte_in_format 1 4) (λ a. kind_code a.kind) (λ kind a p h. ap (λ (a : Assertion). kind_code a.kind) h.1.1.1.1.1 ∙ kind_again kind p) (λ kind p.
-      followed (number_in_format 1 (2 ^ 32) Range) (λ a. a.ordinal) (λ ordinal a p h. cc) (λ ordinal p.
-        followed (number_in_format 0 bounds.texts Index) (λ a. a.file) (λ file a p h. cc) (λ file p.
-          followed (number_in_format 0 bounds.texts Index) (λ a. a.comment) (λ comment a p h. cc) (λ comment p.
-            followed number_format (λ a. a.line) (λ line a p h. cc) (λ line p.
-              followed number_format (λ a. a.column) (λ column a p h. cc) (λ column p.
-                finished (record { function = function; kind = kind_of kind; ordinal = ordinal; file = file; comment = comment; line = line; column = column })))))))))
-  (λ a h. simp (append_assoc, append-nil))
-  (λ a h. record { function = h.0; ordinal = h.1.1.0.0; file = h.1.1.1.0; comment = h.1.1.1.1.0; line = h.1.1.1.1.1.0; column = h.1.1.1.1.1.1.0 })
-  (λ a h. (h.function, (kind_in a.kind, ((h.ordinal, h.ordinal.below), (h.file, (h.comment, (h.line, (h.column,
-    ap (λ (kind : AssertionKind). record { function = a.function; kind = kind; ordinal = a.ordinal; file = a.file; comment = a.comment; line = a.line; column = a.column }) (sym (kind_back a.kind))))))))))
+    (followed (number_in_format 0 bounds.functions Index) (λ a. a.function) (λ function a p h. cc) (λ function p.
+    followed (byte_in_format 1 4 Range) (λ a. kind_code a.kind) (λ kind a p h. ap (λ (a : Assertion). kind_code a.kind) h.1.1.1.1.1 ∙ kind_again kind p) (λ kind p.
+    followed (number_in_format 1 (2 ^ 32) Range) (λ a. a.ordinal) (λ ordinal a p h. cc) (λ ordinal p.
+    followed (number_in_format 0 bounds.texts Index) (λ a. a.file) (λ file a p h. cc) (λ file p.
+    followed (number_in_format 0 bounds.texts Index) (λ a. a.comment) (λ comment a p h. cc) (λ comment p.
+    followed number_format (λ a. a.line) (λ line a p h. cc) (λ line p.
+    followed number_format (λ a. a.column) (λ column a p h. cc) (λ column p.
+    finished (record { function = function; kind = kind_of kind; ordinal = ordinal; file = file; comment = comment; line = line; column = column })))))))))
+    (λ a h. simp (append_assoc, append-nil))
+    (λ a h. record { function = h.0; ordinal = h.1.1.0.0; file = h.1.1.1.0; comment = h.1.1.1.1.0; line = h.1.1.1.1.1.0; column = h.1.1.1.1.1.1.0 })
+    (λ a h. (
+      h.function,
+      (
+        kind_in a.kind,
+        (
+          (h.ordinal, h.ordinal.below),
+          (
+            h.file,
+            (
+              h.comment,
+              (
+                h.line,
+                (
+                  h.column,
+                  ap (λ (kind : AssertionKind). record { function = a.function; kind = kind; ordinal = a.ordinal; file = a.file; comment = a.comment; line = a.line; column = a.column }) (sym (kind_back a.kind)),
+                ),
+              ),
+            ),
+          ),
+        ),
+      ),
+    ))
 
 pub assertions_format : (bounds : Bounds) → IsFormat (assertions_at bounds) (list assertion) (λ xs. (length xs ≤ 4096) × AllByRecursion (HoldsAssertion bounds) xs)
 unfolding assertions_at
 assertions_format bounds = restated (followed (number_in_format 0 4097 Limit) (λ xs. length xs) (λ count xs p h. h.0) (λ count h. many_format (assertion_format bounds) count))
-  (λ xs h. refl) (λ xs h. (omega (arith, h.0.0.below), h.1.1)) (λ xs h. ((record { from = omega arith; below = omega (arith, h.0) }, omega (arith, h.0)), (refl, h.1)))
+    (λ xs h. refl) (λ xs h. (omega (arith, h.0.0.below), h.1.1)) (λ xs h. ((record { from = omega arith; below = omega (arith, h.0) }, omega (arith, h.0)), (refl, h.1)))

@@ -73,8 +73,8 @@ is_between low end n = nat_le low n && nat_lt n end
 unfoldable pub number_in : ℕ → ℕ → Why → Reading ℕ
 number_in low end why = judged (is_between low end) why number_at
 
-unfoldable pub byte_in : ℕ → ℕ → Reading ℕ
-byte_in low end = judged (is_between low end) Range byte_at
+unfoldable pub byte_in : ℕ → ℕ → Why → Reading ℕ
+byte_in low end why = judged (is_between low end) why byte_at
 
 -- a number that is zero
 unfoldable pub zero_at : Reading ℕ
@@ -88,7 +88,7 @@ text_at = do
 
 unfoldable pub flag_at : Reading Bool
 flag_at = do
-  value ← byte_in 0 2
+  value ← byte_in 0 2 Range
   give (value == 1)
 
 -- values one after the other; room is the first weight that none of them may have, and each value takes its weight of it
@@ -107,6 +107,20 @@ unfoldable pub list_at : {A : Type 0} → Reading A → Reading (List A)
 list_at item = do
   count ← number_at
   many_at item count
+
+-- what a file begins with: the word of its format as a number, and version 1
+unfoldable pub head_at : ℕ → Reading ℕ
+head_at word = do
+  magic ← number_in word (word + 1) Magic
+  byte_in 1 2 Version
+
+-- nothing follows the last field
+abbrev pub ended : {A : Type 0} → Result (A × Unread) BytesFault → Result A BytesFault
+ended (Ok read) = if length read.1.bytes == 0 then Ok read.0 else fault read.1.at Trailing
+ended (Err other) = Err other
+
+abbrev pub from_start : List ℕ → Unread
+from_start bytes = record { at = 0; bytes = bytes }
 
 -- what a function returned, seen by view, is what reading gives, unless memory ran out
 abbrev pub Fails : {Y : Type 0} → ReadFault → Result Y BytesFault → Type 0

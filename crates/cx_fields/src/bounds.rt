@@ -36,6 +36,23 @@ impl Bounds {
         }
     }
 
+    /// The bounds of tables of these lengths, which memory holds. (This project's own.)
+    pub fn of(texts: usize, types: usize, globals: usize, functions: usize, assertions: usize) -> Self
+        requires { (texts < 2 ^ 63) × (types < 2 ^ 63) × (functions < 2 ^ 63) }
+        ensures { result ≡ bounds_of texts types globals functions assertions }
+    {
+        Bounds {
+            texts: texts as u64,
+            texts_or_none: texts as u64 + 1,
+            types: types as u64,
+            types_or_none: types as u64 + 1,
+            globals: globals as u64,
+            functions: functions as u64,
+            functions_or_none: functions as u64 + 1,
+            assertions: assertions as u64,
+        }
+    }
+
     /// What an instruction's first number must be below.
     pub(crate) fn operand_end(&self, code: u8) -> u64
         ensures { result ≡ operand_end self.now code }

@@ -87,7 +87,7 @@ fn region_of<'a>(bounds: &Bounds, rest: Rest<'a>) -> Result<(Region, Rest<'a>), 
 {
     let (start, rest) = rest.number()?;
     let (end, rest) = rest.number()?;
-    let (kind, rest) = rest.byte_in(1, 5)?;
+    let (kind, rest) = rest.byte_in(1, 5, Why::Range)?;
     let (of, rest) = rest.number_in(0, bounds.caught_end(kind), Why::Index)?;
     let (target, rest) = rest.number()?;
     let (depth, rest) = rest.number()?;
@@ -144,7 +144,7 @@ fn each_region<'a>(
 pub fn initial_of(rest: Rest) -> Result<(Initial, Rest), ReadFault>
     ensures { Gives (λ x. (x.0, unread x.1)) result (initial_at (unread rest.entry)) }
 {
-    let (sort, rest) = rest.byte_in(0, 2)?;
+    let (sort, rest) = rest.byte_in(0, 2, Why::Range)?;
     let (value, rest) = value_of(sort, rest)?;
     Ok((value, rest))
 }
@@ -179,7 +179,7 @@ fn assertion_of<'a>(bounds: &Bounds, rest: Rest<'a>) -> Result<(Assertion, Rest<
     ensures { Gives (λ x. (x.0, unread x.1)) result (assertion_at bounds.now (unread rest.entry)) }
 {
     let (function, rest) = rest.number_in(0, bounds.functions, Why::Index)?;
-    let (kind, rest) = rest.byte_in(1, 4)?;
+    let (kind, rest) = rest.byte_in(1, 4, Why::Range)?;
     let (ordinal, rest) = rest.number_in(1, 1 << 32, Why::Range)?;
     let (file, rest) = rest.number_in(0, bounds.texts, Why::Index)?;
     let (comment, rest) = rest.number_in(0, bounds.texts, Why::Index)?;

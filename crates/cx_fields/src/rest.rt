@@ -1,5 +1,5 @@
-ghost use Rattle.std.specs.Prelude.{◌≡◌, length, IfOk};
-ghost use Rattle.cx_fields.specs.Reading.{Gives, unread, bytes_at, byte_at, number_at, number_in, byte_in, zero_at, text_at, flag_at};
+ghost use Rattle.std.specs.Prelude.{◌≡◌, ◌==◌, length, IfOk};
+ghost use Rattle.cx_fields.specs.Reading.{Gives, unread, bytes_at, byte_at, number_at, number_in, byte_in, zero_at, text_at, flag_at, head_at, from_start};
 ghost use Rattle.cx_fields.specs.declared.fault.ReadFault.TheVariants.{Bad};
 
 use crate::fault::{BytesFault, ReadFault, Why};
@@ -18,8 +18,23 @@ pub struct Rest<'a> {
 }
 
 impl<'a> Rest<'a> {
-    fn fault(self, why: Why) -> ReadFault
-        ensures { result ≡ Bad (record { at = self.entry.at; why = why }) }
+    /// All bytes of a file. (This project's own.)
+    pub fn new(bytes: &'a [u8]) -> Self
+        ensures { unread result ≡ from_start bytes.now }
+    {
+        Rest { at: 0, bytes }
+    }
+
+    /// Whether every byte has been read. (This project's own.)
+    pub fn is_empty(self) -> bool
+        ensures { result ≡ (length (unread self.entry).bytes == 0) }
+    {
+        self.bytes.is_empty()
+    }
+
+    /// The fault that a field has which begins here. (This project's own.)
+    pub fn fault(self, why: Why) -> ReadFault
+        ensures { result ≡ Bad (record { at = (unread self.entry).at; why = why }) }
     {
         ReadFault::Bad(BytesFault { at: self.at, why })
     }
@@ -40,6 +55,9 @@ impl<'a> Rest<'a> {
         Ok((field, Rest { at, bytes }))
     }
 
+    /// A byte, and what follows it. (This project's own.)
+    ///
+    /// `Bad`: the field is cut, ends past the largest file, or its value isn't allowed.
     #[tactic(auto, unfolding(crate::specs::Reading::byte_at))]
     pub fn byte(self) -> Result<(u8, Rest<'a>), ReadFault>
         ensures { Gives (λ x. (x.0, unread x.1)) result (byte_at (unread self.entry)) }
@@ -48,6 +66,9 @@ impl<'a> Rest<'a> {
         Ok((bytes[0], rest))
     }
 
+    /// A number of four bytes, the high one first, and what follows it. (This project's own.)
+    ///
+    /// `Bad`: the field is cut, ends past the largest file, or its value isn't allowed.
     #[tactic(auto, unfolding(crate::specs::Reading::number_at))]
     pub fn number(self) -> Result<(u32, Rest<'a>), ReadFault>
         ensures { Gives (λ x. (x.0, unread x.1)) result (number_at (unread self.entry)) }
@@ -56,6 +77,10 @@ impl<'a> Rest<'a> {
         Ok((BigEndian::read_u32(bytes), rest))
     }
 
+    /// A number from `low` up to the one before `end`, and what follows it; `why` is the reason for any other number. (This
+    /// project's own.)
+    ///
+    /// `Bad`: the field is cut, ends past the largest file, or its value isn't allowed.
     #[tactic(auto, unfolding(crate::specs::Reading::number_in))]
     pub fn number_in(self, low: u32, end: u64, why: Why) -> Result<(u32, Rest<'a>), ReadFault>
         ensures { Gives (λ x. (x.0, unread x.1)) result (number_in low end why (unread self.entry)) }
@@ -67,17 +92,24 @@ impl<'a> Rest<'a> {
         Ok((number, rest))
     }
 
+    /// A byte from `low` up to the one before `end`, and what follows it; `why` is the reason for any other byte. (This
+    /// project's own.)
+    ///
+    /// `Bad`: the field is cut, ends past the largest file, or its value isn't allowed.
     #[tactic(auto, unfolding(crate::specs::Reading::byte_in))]
-    pub fn byte_in(self, low: u8, end: u8) -> Result<(u8, Rest<'a>), ReadFault>
-        ensures { Gives (λ x. (x.0, unread x.1)) result (byte_in low end (unread self.entry)) }
+    pub fn byte_in(self, low: u8, end: u8, why: Why) -> Result<(u8, Rest<'a>), ReadFault>
+        ensures { Gives (λ x. (x.0, unread x.1)) result (byte_in low end why (unread self.entry)) }
     {
         let (byte, rest) = self.byte()?;
         if byte < low || byte >= end {
-            return Err(self.fault(Why::Range));
+            return Err(self.fault(why));
         }
         Ok((byte, rest))
     }
 
+    /// A number that must be zero, and what follows it. (This project's own.)
+    ///
+    /// `Bad`: the field is cut, ends past the largest file, or its value isn't allowed.
     #[tactic(auto, unfolding(crate::specs::Reading::zero_at))]
     pub fn zero(self) -> Result<(u32, Rest<'a>), ReadFault>
         ensures { Gives (λ x. (x.0, unread x.1)) result (zero_at (unread self.entry)) }
@@ -85,14 +117,21 @@ impl<'a> Rest<'a> {
         self.number_in(0, 1, Why::Range)
     }
 
+    /// A byte that is 1 for true and 0 for false, and what follows it. (This project's own.)
+    ///
+    /// `Bad`: the field is cut, ends past the largest file, or its value isn't allowed.
     #[tactic(auto, unfolding(crate::specs::Reading::flag_at))]
     pub fn flag(self) -> Result<(bool, Rest<'a>), ReadFault>
         ensures { Gives (λ x. (x.0, unread x.1)) result (flag_at (unread self.entry)) }
     {
-        let (byte, rest) = self.byte_in(0, 2)?;
+        let (byte, rest) = self.byte_in(0, 2, Why::Range)?;
         Ok((byte == 1, rest))
     }
 
+    /// A text, which is its length and its bytes, and what follows it. (This project's own.)
+    ///
+    /// - `OutOfMemory`: there was no memory for it.
+    /// - `Bad`: one of its two fields is cut, ends past the largest file, or the length is no file's.
     #[tactic(auto, unfolding(crate::specs::Reading::text_at))]
     pub fn text(self, alloc: Global) -> Result<(Text, Rest<'a>), ReadFault>
         ensures { Gives (λ x. (x.0, unread x.1)) result (text_at (unread self.entry)) }
@@ -100,5 +139,16 @@ impl<'a> Rest<'a> {
         let (count, rest) = self.number_in(0, 134_217_729, Why::Limit)?;
         let (bytes, rest) = rest.bytes_of(count as usize)?;
         Ok((Text::copy_of(alloc, bytes)?, rest))
+    }
+
+    /// What a file begins with: the word of its format as a number, and version 1. (This project's own.)
+    ///
+    /// `Bad`: one of the two is cut or another one.
+    #[tactic(auto, unfolding(crate::specs::Reading::head_at))]
+    pub fn head(self, word: u32) -> Result<(u8, Rest<'a>), ReadFault>
+        ensures { Gives (λ x. (x.0, unread x.1)) result (head_at word (unread self.entry)) }
+    {
+        let (_, rest) = self.number_in(word, u64::from(word) + 1, Why::Magic)?;
+        rest.byte_in(1, 2, Why::Version)
     }
 }
