@@ -2,3 +2,4 @@ pub mod Format
 pub mod Loop
 pub mod PartFormats
 pub mod Whole
+pub mod Weights
