@@ -185,6 +185,16 @@ pub record IsIn (low end n : ℕ) : Type 0 where
   pub from : low ≤ n
   pub below : n < end
 
+-- an index is within its bound, and of 32 bits
+abbrev pub IsWithin : ℕ → ℕ → Type 0
+IsWithin end n = IsIn 0 end n × (n < 2 ^ 32)
+
+pub within : (end n : ℕ) → n < end → n < 2 ^ 32 → IsWithin end n
+within end n below word = (record { from = omega arith; below = below }, word)
+
+pub looser : (end n : ℕ) → IsWithin end n → IsWithin (2 ^ 32) n
+looser end n h = within (2 ^ 32) n h.1 h.1
+
 is_in : (low end n : ℕ) → is_between low end n ≡ true → IsIn low end n
 is_in low end n h = record { from = grind (arith, nat_tests); below = grind (arith, nat_tests) }
 

@@ -1,6 +1,6 @@
 -- The shared parts are read as they are spelled.
-use Rattle.std.proofs.Common.{◌≡◌, ℕ, zero, suc, ◌+◌, ◌^◌, ◌<◌, ◌≤◌, cond, eqb, List, [], ◌∷◌, ◌++◌, length, refl, sym, ap, subst, ◌∙◌, append_assoc, arith}
-use Rattle.std.specs.Prelude.{⊤}
+use Rattle.std.proofs.Common.{◌≡◌, ℕ, zero, suc, ◌+◌, ◌^◌, ◌<◌, ◌≤◌, Bool, true, false, cond, eqb, List, [], ◌∷◌, ◌++◌, length, refl, sym, ap, subst, ◌∙◌, append_assoc, arith}
+use Rattle.std.specs.Prelude.{⊤, ◌||◌}
 use Rattle.std.specs.List.{AllByRecursion}
 use Rattle.std.proofs.lemmas.List.{append-nil}
 use Rattle.cx_code.specs.declared.code.Instruction.{Instruction}
@@ -15,9 +15,9 @@ use Rattle.cx_code.specs.Storable.{IsStorableRegion}
 use Rattle.cx_fields.specs.declared.bounds.Bounds.{Bounds}
 use Rattle.cx_fields.specs.declared.fault.Why.TheVariants.{Limit, Range, Index}
 use Rattle.cx_fields.specs.Reading.{byte_at, number_at, byte_in, number_in, many_at}
-use Rattle.cx_fields.specs.Parts.{operand_end, instruction_at, code_at, caught_end, region_at, value_at, initial_at, kind_of, assertion_at, assertions_at}
+use Rattle.cx_fields.specs.Parts.{unbounded, operand_end, instruction_at, code_at, caught_end, region_at, value_at, initial_at, kind_of, assertion_at, assertions_at}
 use Rattle.cx_fields.specs.Numbers.{OfWords, OfPlaces, OfHalves, OfPosition}
-use Rattle.cx_fields.proofs.Format.{IsFormat, IsIn, finished, followed, restated, byte_format, number_format, byte_in_format, number_in_format, zero_format, many_format}
+use Rattle.cx_fields.proofs.Format.{IsFormat, IsIn, IsWithin, looser, finished, followed, restated, byte_format, number_format, byte_in_format, number_in_format, zero_format, many_format}
 
 pub record HoldsInstruction (bounds : Bounds) (i : Instruction) : Type 0 where
   pub words : OfWords i
@@ -143,10 +143,10 @@ kind_in kinds.Post = record { from = omega arith; below = omega arith }
 kind_in kinds.Assert = record { from = omega arith; below = omega arith }
 
 pub record HoldsAssertion (bounds : Bounds) (a : Assertion) : Type 0 where
-  pub function : IsIn 0 bounds.functions a.function × (a.function < 2 ^ 32)
+  pub function : IsWithin bounds.functions a.function
   pub ordinal : IsIn 1 (2 ^ 32) a.ordinal
-  pub file : IsIn 0 bounds.texts a.file × (a.file < 2 ^ 32)
-  pub comment : IsIn 0 bounds.texts a.comment × (a.comment < 2 ^ 32)
+  pub file : IsWithin bounds.texts a.file
+  pub comment : IsWithin bounds.texts a.comment
   pub line : a.line < 2 ^ 32
   pub column : a.column < 2 ^ 32
 
@@ -190,3 +190,30 @@ pub assertions_format : (bounds : Bounds) → IsFormat (assertions_at bounds) (l
 unfolding assertions_at
 assertions_format bounds = restated (followed (number_in_format 0 4097 Limit) (λ xs. length xs) (λ count xs p h. h.0) (λ count h. many_format (assertion_format bounds) count))
     (λ xs h. refl) (λ xs h. (omega (arith, h.0.0.below), h.1.1)) (λ xs h. ((record { from = omega arith; below = omega (arith, h.0) }, omega (arith, h.0)), (refl, h.1)))
+
+-- ---- without bounds
+
+same_either : {X : Type 0} (b : Bool) (x y : X) → y ≡ x → cond b x y ≡ x
+same_either true x y e = refl
+same_either false x y e = e
+
+operand_unbounded : (code : ℕ) → operand_end unbounded code ≡ 2 ^ 32
+operand_unbounded code =
+    same_either (eqb code 38) _ _ (same_either (eqb code 40) _ _ (same_either (eqb code 43) _ _
+      (same_either (eqb code 44 || eqb code 45 || eqb code 46) _ _ (same_either (eqb code 49 || eqb code 54) _ _ refl))))
+
+pub free_instruction : (i : Instruction) → OfWords i → HoldsInstruction unbounded i
+free_instruction i words = record { words = words; index = rw (operand_unbounded i.code) words.a }
+
+pub free_region : (r : Region) → OfPlaces r → IsStorableRegion r → HoldsRegion unbounded r
+free_region r places storable = record { places = places; storable = storable; index = rw (same_either (eqb r.kind 2) _ _ refl) places.of }
+
+pub assertion_looser : (bounds : Bounds) (a : Assertion) → HoldsAssertion bounds a → HoldsAssertion unbounded a
+assertion_looser bounds a h = record {
+  function = looser bounds.functions a.function h.function;
+  ordinal = h.ordinal;
+  file = looser bounds.texts a.file h.file;
+  comment = looser bounds.texts a.comment h.comment;
+  line = h.line;
+  column = h.column;
+}

@@ -1,5 +1,5 @@
 -- What holds of each value of a list, and of the sum of their weights.
-use Rattle.std.proofs.Common.{◌≡◌, ℕ, ◌+◌, ◌-◌, ◌<◌, List, [], ◌∷◌, arith}
+use Rattle.std.proofs.Common.{◌≡◌, ℕ, ◌+◌, ◌-◌, ◌<◌, ◌≤◌, List, [], ◌∷◌, arith}
 use Rattle.std.specs.List.{All, AllByRecursion, sum_by}
 use Rattle.std.proofs.lemmas.List.Elements.{All-from_recursion, recursion_from_All, All-weaker}
 use Rattle.std.proofs.lemmas.List.Sums.{sum_by-cons}
@@ -24,9 +24,9 @@ weights_fit weight P f room (x ∷ xs) some h =
     let one = f room x h.0 in
     rw sum_by-cons (omega (arith, one, weights_fit weight P f (room - weight x) xs (omega arith) h.1))
 
-pub all_of_weighed : {A : Type 0} (weight : A → ℕ) (P : ℕ → A → Type 0) (Q : A → Type 0) → ((room : ℕ) (x : A) → P room x → Q x) → (room : ℕ) (xs : List A) → HoldsEach weight P room xs → AllByRecursion Q xs
-all_of_weighed weight P Q f room [] h = tt
-all_of_weighed weight P Q f room (x ∷ xs) h = (f room x h.0, all_of_weighed weight P Q f (room - weight x) xs h.1)
+pub all_of_weighed : {A : Type 0} (weight : A → ℕ) (P : ℕ → A → Type 0) (Q : A → Type 0) (most : ℕ) → ((room : ℕ) (x : A) → room ≤ most → P room x → Q x) → (room : ℕ) (xs : List A) → room ≤ most → HoldsEach weight P room xs → AllByRecursion Q xs
+all_of_weighed weight P Q most f room [] le h = tt
+all_of_weighed weight P Q most f room (x ∷ xs) le h = (f room x le h.0, all_of_weighed weight P Q most f (room - weight x) xs (omega arith) h.1)
 
 pub weighed_of : {A : Type 0} (weight : A → ℕ) (P : ℕ → A → Type 0) (Q : A → Type 0) → ((room : ℕ) (x : A) → weight x < room → Q x → P room x) → (room : ℕ) (xs : List A) → sum_by weight xs < room → AllByRecursion Q xs
     → HoldsEach weight P room xs
