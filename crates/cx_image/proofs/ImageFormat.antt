@@ -1,6 +1,6 @@
 -- An image is read as it is spelled.
-use Rattle.std.proofs.Common.{◌≡◌, ℕ, ◌+◌, ◌-◌, ◌^◌, ◌<◌, ◌≤◌, List, [], ◌∷◌, ◌++◌, length, All, Ok, refl, sym, ap, ◌∙◌, append_assoc, arith}
-use Rattle.std.specs.Prelude.{codes}
+use Rattle.std.proofs.Common.{◌≡◌, ℕ, ◌+◌, ◌-◌, ◌^◌, ◌<◌, ◌≤◌, List, [], ◌∷◌, ◌++◌, length, All, Result, Ok, Err, refl, sym, ap, ◌∙◌, append_assoc, arith}
+use Rattle.std.specs.Prelude.{codes, IfOk}
 use Rattle.std.specs.List.{AllByRecursion, sum_by}
 use Rattle.std.proofs.lemmas.List.{append-nil}
 use Rattle.std.proofs.lemmas.List.Elements.{All-from_recursion, recursion_from_All}
@@ -15,10 +15,11 @@ use Rattle.cx_code.specs.Spelling.{number, list, type_entry, global, function, i
 use Rattle.cx_code.specs.Storable.{IsShort, IsStorable, IsStorableType, IsStorableGlobal, IsStorableFunction, IsStorableRegion, IsStorableAssertion}
 use Rattle.cx_fields.specs.declared.bounds.Bounds.{Bounds}
 use Rattle.cx_fields.specs.declared.fault.Why.TheVariants.{Limit, Range, Index}
-use Rattle.cx_fields.specs.Reading.{number_in}
+use Rattle.cx_fields.specs.declared.fault.ReadFault.{ReadFault}
+use Rattle.cx_fields.specs.Reading.{Gives, number_in}
 use Rattle.cx_fields.specs.Parts.{unbounded}
 use Rattle.cx_fields.specs.Numbers.{OfWords, OfPlaces, OfHalves, OfPosition}
-use Rattle.cx_fields.proofs.Format.{IsFormat, IsIn, IsBytes, IsWithin, within, looser, HoldsEach, finished, followed, restated, number_in_format, flag_format, text_format, head_format, list_format, each_format}
+use Rattle.cx_fields.proofs.Format.{IsFormat, IsIn, IsBytes, IsWithin, within, looser, ok_is, HoldsEach, finished, followed, restated, number_in_format, flag_format, text_format, head_format, list_format, each_format}
 use Rattle.cx_fields.proofs.PartFormats.{HoldsInstruction, HoldsRegion, HoldsAssertion, code_format, region_format, free_instruction, free_region, initial_format, assertion_looser, assertions_format}
 use Rattle.cx_fields.proofs.Weights.{all_of, each_of, each_of_both, each_looser, weights_fit, all_of_weighed, weighed_of}
 use Rattle.cx_fields.proofs.Whole.{Spelled, whole_takes, whole_again}
@@ -234,3 +235,10 @@ image_takes bytes image fits e =
 
 pub image_again : (image : Image) → IsStorable image → ImageOfWords image → read_image (image_spelling image) ≡ Ok image
 image_again image s w = whole_again image_at tables_of image_spelling HoldsImage image_format image_looser image (holds image s w) s.bytes
+
+pub one_image : (image other : Image) → IsStorable image → ImageOfWords image → IsStorable other → ImageOfWords other → image_spelling image ≡ image_spelling other → image ≡ other
+one_image image other s w t v e = ok_is image other (sym (image_again image s w) ∙ ap read_image e ∙ image_again other t v)
+
+pub is_found : (bytes : List ℕ) (r : Result Image ReadFault) → IsBytes bytes → Gives (λ image. image) r (read_image bytes) → IfOk r (λ image. IsStorable image × (bytes ≡ image_spelling image))
+is_found bytes (Ok image) fits given = let r = image_takes bytes image fits given in (r.storable, r.same)
+is_found bytes (Err e) fits given = tt

@@ -1,4 +1,4 @@
-ghost use Rattle.std.specs.Prelude.{◌≡◌, ◌<◌, length, IfOk, Ok};
+ghost use Rattle.std.specs.Prelude.{◌≡◌, IfOk, Ok};
 ghost use Rattle.cx_code.specs.declared.image.Image.{Image};
 ghost use Rattle.cx_code.specs.Spelling.{image_spelling};
 ghost use Rattle.cx_code.specs.Storable.{IsStorable};
@@ -13,6 +13,22 @@ use std::alloc::Global;
 
 /// Why bytes gave no image: want of memory, or the first fault of the bytes. (This project's own.)
 pub type ImageFault = ReadFault;
+
+/// The image that the bytes of a file are, all of them. It is exactly the one that the bytes spell; other bytes have the
+/// first fault from the left. Indices are judged after the last field, and those in code and in unwind tables not here.
+/// (The format is this project's own.)
+///
+/// - `OutOfMemory`: there was no memory.
+/// - `Bad`: where and why the bytes are no image: the first field that is cut, that ends past the largest file or whose
+///   value its row or a limit doesn't allow; else the first index that is out of its table; else the first byte after the
+///   last field.
+pub fn decode(alloc: Global, bytes: &[u8]) -> Result<Image, ImageFault>
+    ensures found { IfOk result (λ image. IsStorable image × (bytes.now ≡ image_spelling image)) }
+    ensures only { (image : Image) → IsStorable image → ImageOfWords image → bytes.now ≡ image_spelling image → Gives (λ read. read) result (Ok image) }
+    ensures exact { Gives (λ image. image) result (read_image bytes.now) }
+{
+    whole(alloc, bytes)
+}
 
 #[tactic(auto, unfolding(crate::specs::Reading::type_at))]
 fn type_of<'a>(
