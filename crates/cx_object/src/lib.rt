@@ -1,0 +1,6 @@
+//! The bytes of objects.
+#![tactic(auto)]
+
+mod encoding;
+
+pub use encoding::encode;
