@@ -18,19 +18,23 @@ pub each_looser : {A : Type 0} (P Q : A → Type 0) → ((x : A) → P x → Q x
 each_looser P Q f [] h = tt
 each_looser P Q f (x ∷ xs) h = (f x h.0, each_looser P Q f xs h.1)
 
-pub weights_fit : {A : Type 0} (weight : A → ℕ) (P : ℕ → A → Type 0) → ((room : ℕ) (x : A) → P room x → weight x < room) → (room : ℕ) (xs : List A) → 0 < room → HoldsEach weight P room xs → sum_by weight xs < room
+pub weights_fit : {A : Type 0} (weight : A → ℕ) (P : ℕ → A → Type 0) → ((room : ℕ) (x : A) → 0 < room → P room x → weight x < room) → (room : ℕ) (xs : List A) → 0 < room → HoldsEach weight P room xs → sum_by weight xs < room
 weights_fit weight P f room [] some h = some
 weights_fit weight P f room (x ∷ xs) some h =
-    let one = f room x h.0 in
+    let one = f room x some h.0 in
     rw sum_by-cons (omega (arith, one, weights_fit weight P f (room - weight x) xs (omega arith) h.1))
 
 pub all_of_weighed : {A : Type 0} (weight : A → ℕ) (P : ℕ → A → Type 0) (Q : A → Type 0) (most : ℕ) → ((room : ℕ) (x : A) → room ≤ most → P room x → Q x) → (room : ℕ) (xs : List A) → room ≤ most → HoldsEach weight P room xs → AllByRecursion Q xs
 all_of_weighed weight P Q most f room [] le h = tt
 all_of_weighed weight P Q most f room (x ∷ xs) le h = (f room x le h.0, all_of_weighed weight P Q most f (room - weight x) xs (omega arith) h.1)
 
-pub weighed_of : {A : Type 0} (weight : A → ℕ) (P : ℕ → A → Type 0) (Q : A → Type 0) → ((room : ℕ) (x : A) → weight x < room → Q x → P room x) → (room : ℕ) (xs : List A) → sum_by weight xs < room → AllByRecursion Q xs
+pub weighed_of : {A : Type 0} (weight : A → ℕ) (P : ℕ → A → Type 0) (Q : A → Type 0) (most : ℕ) → ((room : ℕ) (x : A) → room ≤ most → weight x < room → Q x → P room x) → (room : ℕ) (xs : List A) → room ≤ most → sum_by weight xs < room → AllByRecursion Q xs
     → HoldsEach weight P room xs
-weighed_of weight P Q f room [] fit h = tt
-weighed_of weight P Q f room (x ∷ xs) fit h =
+weighed_of weight P Q most f room [] le fit h = tt
+weighed_of weight P Q most f room (x ∷ xs) le fit h =
     let sum = sum_by-cons weight x xs in
-    (f room x (omega (arith, sum, fit)) h.0, weighed_of weight P Q f (room - weight x) xs (omega (arith, sum, fit)) h.1)
+    (f room x le (omega (arith, sum, fit)) h.0, weighed_of weight P Q most f (room - weight x) xs (omega arith) (omega (arith, sum, fit)) h.1)
+
+pub weighed_looser : {A : Type 0} (weight : A → ℕ) (P Q : ℕ → A → Type 0) → ((room : ℕ) (x : A) → P room x → Q room x) → (room : ℕ) (xs : List A) → HoldsEach weight P room xs → HoldsEach weight Q room xs
+weighed_looser weight P Q f room [] h = tt
+weighed_looser weight P Q f room (x ∷ xs) h = (f room x h.0, weighed_looser weight P Q f (room - weight x) xs h.1)

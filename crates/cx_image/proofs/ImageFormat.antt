@@ -162,7 +162,7 @@ storable image h short = record {
   each_global = all_of HoldsGlobal IsStorableGlobal (λ g p. record { name = p.name }) image.globals h.globals.1;
   functions = h.functions.0;
   each_function = All-from_recursion IsStorableFunction image.functions (all_of_weighed code_length HoldsFunction IsStorableFunction 8388609 storable_function 8388609 image.functions (omega arith) h.functions.1);
-  instructions = omega (arith, weights_fit code_length HoldsFunction (λ room f p. p.code.0) 8388609 image.functions (omega arith) h.functions.1);
+  instructions = omega (arith, weights_fit code_length HoldsFunction (λ room f some p. p.code.0) 8388609 image.functions (omega arith) h.functions.1);
   assertions = h.assertions.0;
   each_assertion = all_of (HoldsAssertion (tables_of image)) (IsStorableAssertion image) (storable_assertion image) image.assertions h.assertions.1;
   main = h.main.0.below;
@@ -189,8 +189,8 @@ holds_type image few t s = record {
 abbrev KeptFunction : Function → Type 0
 KeptFunction f = IsStorableFunction f × FunctionOfWords f
 
-holds_function : (room : ℕ) (f : Function) → code_length f < room → KeptFunction f → HoldsFunction room f
-holds_function room f fit s = record {
+holds_function : (room : ℕ) (f : Function) → room ≤ 8388609 → code_length f < room → KeptFunction f → HoldsFunction room f
+holds_function room f le fit s = record {
   name = s.0.name;
   parameters = s.0.parameters;
   slots = s.0.slots;
@@ -213,7 +213,7 @@ holds image s w = record {
   texts = (s.texts, recursion_from_All IsShort image.texts s.each_text);
   types = (s.types, each_of (IsStorableType image) (HoldsType (tables_of image)) (holds_type image s.functions) image.types s.each_type);
   globals = (s.globals, each_of_both IsStorableGlobal GlobalOfWords HoldsGlobal (λ g p q. record { name = p.name; initial = q }) image.globals s.each_global w.globals);
-  functions = (s.functions, weighed_of code_length HoldsFunction KeptFunction holds_function 8388609 image.functions (omega (arith, s.instructions))
+  functions = (s.functions, weighed_of code_length HoldsFunction KeptFunction 8388609 holds_function 8388609 image.functions (omega arith) (omega (arith, s.instructions))
     (each_of_both IsStorableFunction FunctionOfWords KeptFunction (λ f p q. (p, q)) image.functions s.each_function w.functions));
   assertions = (s.assertions, each_of_both (IsStorableAssertion image) OfPosition (HoldsAssertion (tables_of image)) (holds_assertion image s.functions s.texts) image.assertions s.each_assertion w.assertions);
   main = within (length image.functions) image.main s.main (omega (arith, s.main, s.functions));
