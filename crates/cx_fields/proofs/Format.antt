@@ -2,7 +2,7 @@
 use Rattle.std.proofs.Common.{◌≡◌, ℕ, zero, suc, ◌+◌, ◌-◌, ◌^◌, ◌<◌, ◌≤◌, Bool, true, false, cond, ltb, List, [], ◌∷◌, ◌++◌, length, get_or, take, drop, Result, Ok, Err, refl, sym, ap, subst, ◌∙◌, append_assoc, arith, inl, inr}
 use Rattle.std.specs.Int.{w32, from_be_bytes, to_be_bytes}
 use Rattle.std.proofs.lemmas.Bool.{cases_lt, ltb-false, le-ltb}
-use Rattle.std.proofs.lemmas.List.{take_at, drop_at, take-append-drop, length-append, length-take, length-drop, get_or-drop, get_or-take, get_or_past, append-nil}
+use Rattle.std.proofs.lemmas.List.{take_at, drop_at, take-append-drop, length-append, length-take, get_or-drop, get_or-take, get_or_past}
 use Rattle.std.proofs.lemmas.Nat.{be_bytes_4, from_be_bytes-to_be_bytes_4}
 use Rattle.cx_fields.specs.declared.fault.BytesFault.{BytesFault}
 use Rattle.cx_fields.specs.declared.fault.Why.{Why}
@@ -309,6 +309,6 @@ list_format format = restated (followed number_format (λ xs. length xs) (λ cou
 pub head_format : (word : ℕ) → word < 2 ^ 32 → IsFormat (head_at word) (λ version. number word ++ 1 ∷ []) (λ version. version ≡ 1)
 unfolding head_at
 head_format word small = restated (followed (number_in_format word (word + 1) Magic) (λ version. word) (λ magic version p h. omega (arith, p.0.from, p.0.below)) (λ magic p. byte_in_format 1 2 Version))
-  (λ version h. let e : version ≡ 1 = omega (arith, h.1.from, h.1.below) in rw e refl)
-  (λ version h. omega (arith, h.1.from, h.1.below))
-  (λ version h. ((record { from = omega arith; below = omega arith }, small), record { from = omega arith; below = omega arith }))
+    (λ version h. let e : version ≡ 1 = omega (arith, h.1.from, h.1.below) in rw e refl)
+    (λ version h. omega (arith, h.1.from, h.1.below))
+    (λ version h. ((record { from = omega arith; below = omega arith }, small), record { from = omega arith; below = omega arith }))

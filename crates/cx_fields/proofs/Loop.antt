@@ -4,7 +4,7 @@ use Rattle.std.proofs.lemmas.List.{append-nil}
 use Rattle.cx_fields.specs.declared.fault.BytesFault.{BytesFault}
 use Rattle.cx_fields.specs.declared.fault.ReadFault.{ReadFault}
 use Rattle.cx_fields.specs.declared.fault.ReadFault.TheVariants as faults
-use Rattle.cx_fields.specs.Reading.{Unread, Reading, continued, ◌>>=◌, give, Fails, each_at}
+use Rattle.cx_fields.specs.Reading.{Unread, Reading, continued, give, Fails, each_at}
 
 -- what was read before, and what is still read
 abbrev pub with_front : {A : Type 0} → List A → Result (List A × Unread) BytesFault → Result (List A × Unread) BytesFault

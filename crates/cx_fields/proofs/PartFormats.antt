@@ -1,6 +1,6 @@
 -- The shared parts are read as they are spelled.
-use Rattle.std.proofs.Common.{◌≡◌, ℕ, zero, suc, ◌+◌, ◌^◌, ◌<◌, ◌≤◌, Bool, true, false, cond, eqb, List, [], ◌∷◌, ◌++◌, length, refl, sym, ap, subst, ◌∙◌, append_assoc, arith}
-use Rattle.std.specs.Prelude.{⊤, ◌||◌}
+use Rattle.std.proofs.Common.{◌≡◌, ℕ, zero, suc, ◌^◌, ◌<◌, ◌≤◌, Bool, true, false, cond, eqb, List, [], ◌∷◌, ◌++◌, length, refl, sym, ap, ◌∙◌, append_assoc, arith}
+use Rattle.std.specs.Prelude.{◌||◌}
 use Rattle.std.specs.List.{AllByRecursion}
 use Rattle.std.proofs.lemmas.List.{append-nil}
 use Rattle.cx_code.specs.declared.code.Instruction.{Instruction}
@@ -14,9 +14,8 @@ use Rattle.cx_code.specs.Spelling.{number, list, instruction, region, initial, k
 use Rattle.cx_code.specs.Storable.{IsStorableRegion}
 use Rattle.cx_fields.specs.declared.bounds.Bounds.{Bounds}
 use Rattle.cx_fields.specs.declared.fault.Why.TheVariants.{Limit, Range, Index}
-use Rattle.cx_fields.specs.Reading.{byte_at, number_at, byte_in, number_in, many_at}
 use Rattle.cx_fields.specs.Parts.{unbounded, operand_end, instruction_at, code_at, caught_end, region_at, value_at, initial_at, kind_of, assertion_at, assertions_at}
-use Rattle.cx_fields.specs.Numbers.{OfWords, OfPlaces, OfHalves, OfPosition}
+use Rattle.cx_fields.specs.Numbers.{OfWords, OfPlaces, OfHalves}
 use Rattle.cx_fields.proofs.Format.{IsFormat, IsIn, IsWithin, looser, finished, followed, restated, byte_format, number_format, byte_in_format, number_in_format, zero_format, many_format}
 
 pub record HoldsInstruction (bounds : Bounds) (i : Instruction) : Type 0 where
@@ -200,7 +199,7 @@ same_either false x y e = e
 operand_unbounded : (code : ℕ) → operand_end unbounded code ≡ 2 ^ 32
 operand_unbounded code =
     same_either (eqb code 38) _ _ (same_either (eqb code 40) _ _ (same_either (eqb code 43) _ _
-      (same_either (eqb code 44 || eqb code 45 || eqb code 46) _ _ (same_either (eqb code 49 || eqb code 54) _ _ refl))))
+    (same_either (eqb code 44 || eqb code 45 || eqb code 46) _ _ (same_either (eqb code 49 || eqb code 54) _ _ refl))))
 
 pub free_instruction : (i : Instruction) → OfWords i → HoldsInstruction unbounded i
 free_instruction i words = record { words = words; index = rw (operand_unbounded i.code) words.a }

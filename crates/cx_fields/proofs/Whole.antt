@@ -1,5 +1,5 @@
 -- A whole file is read as it is spelled.
-use Rattle.std.proofs.Common.{◌≡◌, ℕ, ◌+◌, ◌≤◌, Bool, true, false, cond, eqb, List, [], ◌∷◌, ◌++◌, length, Result, Ok, Err, refl, sym, ap, subst, ◌∙◌, arith}
+use Rattle.std.proofs.Common.{◌≡◌, ℕ, ◌+◌, ◌≤◌, Bool, true, false, cond, eqb, List, [], ◌++◌, length, Result, Ok, Err, refl, sym, ap, subst, ◌∙◌, arith}
 use Rattle.std.proofs.lemmas.Bool.{eqb-true}
 use Rattle.std.proofs.lemmas.List.{append-nil, nil_from_length}
 use Rattle.cx_fields.specs.declared.bounds.Bounds.{Bounds}
@@ -7,7 +7,7 @@ use Rattle.cx_fields.specs.declared.fault.BytesFault.{BytesFault}
 use Rattle.cx_fields.specs.declared.fault.Why.TheVariants.{Trailing}
 use Rattle.cx_fields.specs.Reading.{Unread, Reading, continued, fault, ended, from_start}
 use Rattle.cx_fields.specs.Parts.{unbounded, whole_of}
-use Rattle.cx_fields.proofs.Format.{IsBytes, IsFormat, Takes, ok_is, continued_ok}
+use Rattle.cx_fields.proofs.Format.{IsBytes, IsFormat, ok_is, continued_ok}
 
 abbrev done : {A : Type 0} → A → Result A BytesFault
 done x = Ok x
@@ -48,5 +48,5 @@ pub whole_again : {A : Type 0} (file : Bounds → Reading A) (tables : A → Bou
 unfolding whole_of
 whole_again {A} file tables spell Holds format looser value h short =
     let go : (bytes : List ℕ) → bytes ≡ spell value ++ [] → ended (continued (file unbounded (from_start bytes)) (λ v rest. file (tables v) (from_start bytes))) ≡ Ok value
-      = λ bytes e. rw e (rw ((format unbounded).again value 0 [] (looser (tables value) value h) (omega arith)) (rw ((format (tables value)).again value 0 [] h (omega arith)) refl)) in
+    = λ bytes e. rw e (rw ((format unbounded).again value 0 [] (looser (tables value) value h) (omega arith)) (rw ((format (tables value)).again value 0 [] h (omega arith)) refl)) in
     go (spell value) (sym (append-nil (spell value)))

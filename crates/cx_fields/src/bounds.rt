@@ -37,7 +37,13 @@ impl Bounds {
     }
 
     /// The bounds of tables of these lengths, which memory holds. (This project's own.)
-    pub fn of(texts: usize, types: usize, globals: usize, functions: usize, assertions: usize) -> Self
+    pub fn of(
+        texts: usize,
+        types: usize,
+        globals: usize,
+        functions: usize,
+        assertions: usize,
+    ) -> Self
         requires { (texts < 2 ^ 63) × (types < 2 ^ 63) × (functions < 2 ^ 63) }
         ensures { result ≡ bounds_of texts types globals functions assertions }
     {

@@ -1,11 +1,9 @@
 -- An image is read as it is spelled.
-use Rattle.std.proofs.Common.{◌≡◌, ℕ, ◌+◌, ◌-◌, ◌^◌, ◌<◌, ◌≤◌, List, [], ◌∷◌, ◌++◌, length, All, Result, Ok, Err, refl, sym, ap, ◌∙◌, append_assoc, arith}
+use Rattle.std.proofs.Common.{◌≡◌, ℕ, ◌+◌, ◌^◌, ◌<◌, ◌≤◌, List, length, Result, Ok, Err, refl, sym, ap, ◌∙◌, append_assoc, arith}
 use Rattle.std.specs.Prelude.{codes, IfOk}
-use Rattle.std.specs.List.{AllByRecursion, sum_by}
+use Rattle.std.specs.List.{AllByRecursion}
 use Rattle.std.proofs.lemmas.List.{append-nil}
 use Rattle.std.proofs.lemmas.List.Elements.{All-from_recursion, recursion_from_All}
-use Rattle.cx_code.specs.declared.code.Instruction.{Instruction}
-use Rattle.cx_code.specs.declared.code.Region.{Region}
 use Rattle.cx_code.specs.declared.image.Image.{Image}
 use Rattle.cx_code.specs.declared.image.TypeEntry.{TypeEntry}
 use Rattle.cx_code.specs.declared.image.GlobalEntry.{GlobalEntry}
@@ -16,13 +14,13 @@ use Rattle.cx_code.specs.Storable.{IsShort, IsStorable, IsStorableType, IsStorab
 use Rattle.cx_fields.specs.declared.bounds.Bounds.{Bounds}
 use Rattle.cx_fields.specs.declared.fault.Why.TheVariants.{Limit, Range, Index}
 use Rattle.cx_fields.specs.declared.fault.ReadFault.{ReadFault}
-use Rattle.cx_fields.specs.Reading.{Gives, number_in}
+use Rattle.cx_fields.specs.Reading.{Gives}
 use Rattle.cx_fields.specs.Parts.{unbounded}
 use Rattle.cx_fields.specs.Numbers.{OfWords, OfPlaces, OfHalves, OfPosition}
 use Rattle.cx_fields.proofs.Format.{IsFormat, IsIn, IsBytes, IsWithin, within, looser, ok_is, HoldsEach, finished, followed, restated, number_in_format, flag_format, text_format, head_format, list_format, each_format}
 use Rattle.cx_fields.proofs.PartFormats.{HoldsInstruction, HoldsRegion, HoldsAssertion, code_format, region_format, free_instruction, free_region, initial_format, assertion_looser, assertions_format}
 use Rattle.cx_fields.proofs.Weights.{all_of, each_of, each_of_both, each_looser, weights_fit, all_of_weighed, weighed_of}
-use Rattle.cx_fields.proofs.Whole.{Spelled, whole_takes, whole_again}
+use Rattle.cx_fields.proofs.Whole.{whole_takes, whole_again}
 use Rattle.cx_image.specs.Words.{GlobalOfWords, FunctionOfWords, ImageOfWords}
 use Rattle.cx_image.specs.Reading.{type_at, global_at, function_at, code_length, functions_at, image_at, tables_of, read_image}
 
@@ -34,13 +32,13 @@ pub record HoldsType (bounds : Bounds) (t : TypeEntry) : Type 0 where
 type_format : (bounds : Bounds) → IsFormat (type_at bounds) type_entry (HoldsType bounds)
 unfolding type_at
 type_format bounds = restated
-  (followed text_format (λ t. t.name) (λ name t p h. cc) (λ name p.
+    (followed text_format (λ t. t.name) (λ name t p h. cc) (λ name p.
     followed (number_in_format 1 257 Range) (λ t. t.leaves) (λ leaves t p h. cc) (λ leaves p.
-      followed (number_in_format 0 bounds.functions_or_none Index) (λ t. t.dropper) (λ dropper t p h. cc) (λ dropper p.
-        finished (record { name = name; leaves = leaves; dropper = dropper })))))
-  (λ t h. simp (append_assoc, append-nil))
-  (λ t h. record { name = h.0; leaves = h.1.0.0; dropper = h.1.1.0 })
-  (λ t h. (h.name, ((h.leaves, omega (arith, h.leaves.below)), (h.dropper, refl))))
+    followed (number_in_format 0 bounds.functions_or_none Index) (λ t. t.dropper) (λ dropper t p h. cc) (λ dropper p.
+    finished (record { name = name; leaves = leaves; dropper = dropper })))))
+    (λ t h. simp (append_assoc, append-nil))
+    (λ t h. record { name = h.0; leaves = h.1.0.0; dropper = h.1.1.0 })
+    (λ t h. (h.name, ((h.leaves, omega (arith, h.leaves.below)), (h.dropper, refl))))
 
 pub record HoldsGlobal (g : GlobalEntry) : Type 0 where
   name : IsShort g.name
@@ -49,11 +47,11 @@ pub record HoldsGlobal (g : GlobalEntry) : Type 0 where
 global_format : IsFormat global_at global HoldsGlobal
 unfolding global_at
 global_format = restated
-  (followed text_format (λ g. g.name) (λ name g p h. cc) (λ name p.
+    (followed text_format (λ g. g.name) (λ name g p h. cc) (λ name p.
     followed initial_format (λ g. g.initial) (λ initial g p h. cc) (λ initial p. finished (record { name = name; initial = initial }))))
-  (λ g h. simp (append_assoc, append-nil))
-  (λ g h. record { name = h.0; initial = h.1.0 })
-  (λ g h. (h.name, (h.initial, refl)))
+    (λ g h. simp (append_assoc, append-nil))
+    (λ g h. record { name = h.0; initial = h.1.0 })
+    (λ g h. (h.name, (h.initial, refl)))
 
 pub record HoldsFunction (room : ℕ) (f : Function) : Type 0 where
   name : IsShort f.name
@@ -65,23 +63,31 @@ pub record HoldsFunction (room : ℕ) (f : Function) : Type 0 where
 function_format : (room : ℕ) → IsFormat (function_at room) function (HoldsFunction room)
 unfolding function_at
 function_format room = restated
-  (followed text_format (λ f. f.name) (λ name f p h. cc) (λ name p.
+    (followed text_format (λ f. f.name) (λ name f p h. cc) (λ name p.
     followed flag_format (λ f. f.counted) (λ counted f p h. cc) (λ counted p.
-      followed (number_in_format 0 8193 Range) (λ f. f.parameters) (λ parameters f p h. cc) (λ parameters p.
-        followed (number_in_format parameters 8193 Range) (λ f. f.slots) (λ slots f p h. cc) (λ slots p.
-          followed flag_format (λ f. f.result) (λ result f p h. cc) (λ result p.
-            followed (code_format unbounded room) (λ f. f.code) (λ code f p h. cc) (λ code p.
-              followed (list_format (region_format unbounded)) (λ f. f.regions) (λ regions f p h. cc) (λ regions p.
-                finished (record { name = name; counted = counted; parameters = parameters; slots = slots; result = result; code = code; regions = regions })))))))))
-  (λ f h. simp (append_assoc, append-nil))
-  (λ f h. record { name = h.0; parameters = h.1.1.1.0.0.from; slots = omega (arith, h.1.1.1.0.0.below); code = h.1.1.1.1.1.0; regions = h.1.1.1.1.1.1.0 })
-  (λ f h. (h.name, (tt, ((record { from = omega arith; below = omega (arith, h.parameters, h.slots) }, omega (arith, h.parameters, h.slots)),
-    ((record { from = h.parameters; below = omega (arith, h.slots) }, omega (arith, h.slots)), (tt, (h.code, (h.regions, refl))))))))
+    followed (number_in_format 0 8193 Range) (λ f. f.parameters) (λ parameters f p h. cc) (λ parameters p.
+    followed (number_in_format parameters 8193 Range) (λ f. f.slots) (λ slots f p h. cc) (λ slots p.
+    followed flag_format (λ f. f.result) (λ result f p h. cc) (λ result p.
+    followed (code_format unbounded room) (λ f. f.code) (λ code f p h. cc) (λ code p.
+    followed (list_format (region_format unbounded)) (λ f. f.regions) (λ regions f p h. cc) (λ regions p.
+    finished (record { name = name; counted = counted; parameters = parameters; slots = slots; result = result; code = code; regions = regions })))))))))
+    (λ f h. simp (append_assoc, append-nil))
+    (λ f h. record { name = h.0; parameters = h.1.1.1.0.0.from; slots = omega (arith, h.1.1.1.0.0.below); code = h.1.1.1.1.1.0; regions = h.1.1.1.1.1.1.0 })
+    (λ f h. (
+      h.name,
+      (
+        tt,
+        (
+          (record { from = omega arith; below = omega (arith, h.parameters, h.slots) }, omega (arith, h.parameters, h.slots)),
+          ((record { from = h.parameters; below = omega (arith, h.slots) }, omega (arith, h.slots)), (tt, (h.code, (h.regions, refl)))),
+        ),
+      ),
+    ))
 
 functions_format : IsFormat functions_at (list function) (λ fs. (length fs ≤ 262144) × HoldsEach code_length HoldsFunction 8388609 fs)
 unfolding functions_at
 functions_format = restated (followed (number_in_format 0 262145 Limit) (λ fs. length fs) (λ count fs p h. h.0) (λ count h. each_format code_length function_at function HoldsFunction function_format count 8388609))
-  (λ fs h. refl) (λ fs h. (omega (arith, h.0.0.below), h.1.1)) (λ fs h. ((record { from = omega arith; below = omega (arith, h.0) }, omega (arith, h.0)), (refl, h.1)))
+    (λ fs h. refl) (λ fs h. (omega (arith, h.0.0.below), h.1.1)) (λ fs h. ((record { from = omega arith; below = omega (arith, h.0) }, omega (arith, h.0)), (refl, h.1)))
 
 pub record HoldsImage (bounds : Bounds) (image : Image) : Type 0 where
   texts : (length image.texts < 2 ^ 32) × AllByRecursion IsShort image.texts
@@ -99,18 +105,18 @@ word_is = refl
 image_format : (bounds : Bounds) → IsFormat (image_at bounds) image_spelling (HoldsImage bounds)
 unfolding image_at image_spelling
 image_format bounds = restated
-  (followed (head_format 1129859405 (omega arith)) (λ image. 1) (λ version image p h. sym p) (λ version p.
+    (followed (head_format 1129859405 (omega arith)) (λ image. 1) (λ version image p h. sym p) (λ version p.
     followed (list_format text_format) (λ image. image.texts) (λ texts image p h. cc) (λ texts p.
-      followed (list_format (type_format bounds)) (λ image. image.types) (λ types image p h. cc) (λ types p.
-        followed (list_format global_format) (λ image. image.globals) (λ globals image p h. cc) (λ globals p.
-          followed functions_format (λ image. image.functions) (λ functions image p h. cc) (λ functions p.
-            followed (assertions_format bounds) (λ image. image.assertions) (λ assertions image p h. cc) (λ assertions p.
-              followed (number_in_format 0 bounds.functions Index) (λ image. image.main) (λ main image p h. cc) (λ main p.
-                followed (number_in_format 0 bounds.functions_or_none Index) (λ image. image.handler) (λ handler image p h. cc) (λ handler p.
-                  finished (record { texts = texts; types = types; globals = globals; functions = functions; assertions = assertions; main = main; handler = handler }))))))))))
-  (λ image h. rw word_is (simp (append_assoc, append-nil)))
-  (λ image h. record { texts = h.1.0; types = h.1.1.0; globals = h.1.1.1.0; functions = h.1.1.1.1.0; assertions = h.1.1.1.1.1.0; main = h.1.1.1.1.1.1.0; handler = h.1.1.1.1.1.1.1.0 })
-  (λ image h. (refl, (h.texts, (h.types, (h.globals, (h.functions, (h.assertions, (h.main, (h.handler, refl)))))))))
+    followed (list_format (type_format bounds)) (λ image. image.types) (λ types image p h. cc) (λ types p.
+    followed (list_format global_format) (λ image. image.globals) (λ globals image p h. cc) (λ globals p.
+    followed functions_format (λ image. image.functions) (λ functions image p h. cc) (λ functions p.
+    followed (assertions_format bounds) (λ image. image.assertions) (λ assertions image p h. cc) (λ assertions p.
+    followed (number_in_format 0 bounds.functions Index) (λ image. image.main) (λ main image p h. cc) (λ main p.
+    followed (number_in_format 0 bounds.functions_or_none Index) (λ image. image.handler) (λ handler image p h. cc) (λ handler p.
+    finished (record { texts = texts; types = types; globals = globals; functions = functions; assertions = assertions; main = main; handler = handler }))))))))))
+    (λ image h. rw word_is (simp (append_assoc, append-nil)))
+    (λ image h. record { texts = h.1.0; types = h.1.1.0; globals = h.1.1.1.0; functions = h.1.1.1.1.0; assertions = h.1.1.1.1.1.0; main = h.1.1.1.1.1.1.0; handler = h.1.1.1.1.1.1.1.0 })
+    (λ image h. (refl, (h.texts, (h.types, (h.globals, (h.functions, (h.assertions, (h.main, (h.handler, refl)))))))))
 
 -- ---- without bounds
 
@@ -213,8 +219,11 @@ holds image s w = record {
   texts = (s.texts, recursion_from_All IsShort image.texts s.each_text);
   types = (s.types, each_of (IsStorableType image) (HoldsType (tables_of image)) (holds_type image s.functions) image.types s.each_type);
   globals = (s.globals, each_of_both IsStorableGlobal GlobalOfWords HoldsGlobal (λ g p q. record { name = p.name; initial = q }) image.globals s.each_global w.globals);
-  functions = (s.functions, weighed_of code_length HoldsFunction KeptFunction 8388609 holds_function 8388609 image.functions (omega arith) (omega (arith, s.instructions))
-    (each_of_both IsStorableFunction FunctionOfWords KeptFunction (λ f p q. (p, q)) image.functions s.each_function w.functions));
+  functions = (
+    s.functions,
+    weighed_of code_length HoldsFunction KeptFunction 8388609 holds_function 8388609 image.functions (omega arith) (omega (arith, s.instructions))
+        (each_of_both IsStorableFunction FunctionOfWords KeptFunction (λ f p q. (p, q)) image.functions s.each_function w.functions),
+  );
   assertions = (s.assertions, each_of_both (IsStorableAssertion image) OfPosition (HoldsAssertion (tables_of image)) (holds_assertion image s.functions s.texts) image.assertions s.each_assertion w.assertions);
   main = within (length image.functions) image.main s.main (omega (arith, s.main, s.functions));
   handler = within (length image.functions + 1) image.handler (omega (arith, s.handler)) (omega (arith, s.handler, s.functions));

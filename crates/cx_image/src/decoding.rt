@@ -7,7 +7,9 @@ ghost use Rattle.cx_image.specs.Reading.{type_at, global_at, function_at, code_l
 ghost use Rattle.cx_image.specs.Words.{ImageOfWords};
 
 use cx_code::{Function, GlobalEntry, Image, TypeEntry};
-use cx_fields::{Bounds, ReadFault, Rest, Why, assertions_of, code_of, initial_of, regions_of, texts_of};
+use cx_fields::{
+    Bounds, ReadFault, Rest, Why, assertions_of, code_of, initial_of, regions_of, texts_of,
+};
 use cx_outside::Items;
 use std::alloc::Global;
 

@@ -1,7 +1,7 @@
 -- An object is read as it is spelled.
-use Rattle.std.proofs.Common.{◌≡◌, ℕ, zero, suc, ◌+◌, ◌-◌, ◌^◌, ◌<◌, ◌≤◌, Bool, true, false, cond, eqb, List, [], ◌∷◌, ◌++◌, length, All, Option, Some, None, Result, Ok, Err, refl, sym, ap, subst, ◌∙◌, append_assoc, arith}
-use Rattle.std.specs.Prelude.{codes, IfOk, IfSome, ⊤, ◌||◌}
-use Rattle.std.specs.List.{AllByRecursion, sum_by}
+use Rattle.std.proofs.Common.{◌≡◌, ℕ, zero, suc, ◌+◌, ◌^◌, ◌<◌, ◌≤◌, Bool, true, false, cond, eqb, List, [], ◌∷◌, ◌++◌, length, Option, Some, None, Result, Ok, Err, refl, sym, ap, subst, ◌∙◌, append_assoc, arith}
+use Rattle.std.specs.Prelude.{codes, IfOk, IfSome, ◌||◌}
+use Rattle.std.specs.List.{AllByRecursion}
 use Rattle.std.proofs.lemmas.Bool.{eqb-true}
 use Rattle.std.proofs.lemmas.List.{append-nil}
 use Rattle.std.proofs.lemmas.List.Elements.{All-from_recursion, recursion_from_All}
@@ -19,20 +19,20 @@ use Rattle.cx_code.specs.declared.object.UnitFunction.{UnitFunction}
 use Rattle.cx_code.specs.declared.object.FunctionForm.{FunctionForm}
 use Rattle.cx_code.specs.declared.object.FunctionForm.TheVariants as forms
 use Rattle.cx_code.specs.declared.object.FunctionBody.{FunctionBody}
-use Rattle.cx_code.specs.Spelling.{number, flag, text, list, instruction, region, initial, assertion}
+use Rattle.cx_code.specs.Spelling.{number, flag, text, list, instruction, region, initial}
 use Rattle.cx_code.specs.ObjectSpelling.{unit_type, global_state, unit_global, form_code, definition_text, function_body, no_body, form_body, unit_function, object_spelling}
 use Rattle.cx_code.specs.Storable.{IsShort, IsStorableRegion}
-use Rattle.cx_code.specs.ObjectStorable.{body_of, instruction_count, index_bound, HasIndex, HasCaught, IsStorableUnitType, IsStorableUnitGlobal, IsStorableBody, IsStorableUnitFunction, IsStorableUnitAssertion, IsStorableObject}
+use Rattle.cx_code.specs.ObjectStorable.{body_of, instruction_count, HasIndex, HasCaught, IsStorableUnitType, IsStorableUnitGlobal, IsStorableBody, IsStorableUnitFunction, IsStorableUnitAssertion, IsStorableObject}
 use Rattle.cx_fields.specs.declared.bounds.Bounds.{Bounds}
 use Rattle.cx_fields.specs.declared.fault.Why.TheVariants.{Limit, Range, Index}
 use Rattle.cx_fields.specs.declared.fault.ReadFault.{ReadFault}
-use Rattle.cx_fields.specs.Reading.{Gives, byte_in, number_in}
+use Rattle.cx_fields.specs.Reading.{Gives}
 use Rattle.cx_fields.specs.Parts.{unbounded, operand_end, caught_end}
 use Rattle.cx_fields.specs.Numbers.{OfWords, OfPlaces, OfHalves, OfPosition}
 use Rattle.cx_fields.proofs.Format.{IsFormat, IsIn, IsBytes, IsWithin, within, looser, ok_is, HoldsEach, finished, followed, restated, byte_in_format, number_in_format, zero_format, flag_format, text_format, head_format, list_format, each_format}
 use Rattle.cx_fields.proofs.PartFormats.{HoldsInstruction, HoldsRegion, HoldsAssertion, code_format, region_format, free_instruction, free_region, initial_format, assertion_looser, assertions_format}
 use Rattle.cx_fields.proofs.Weights.{all_of, each_of, each_of_both, each_looser, weights_fit, all_of_weighed, weighed_of, weighed_looser}
-use Rattle.cx_fields.proofs.Whole.{Spelled, whole_takes, whole_again}
+use Rattle.cx_fields.proofs.Whole.{whole_takes, whole_again}
 use Rattle.cx_object.specs.Words.{StateOfWords, GlobalOfWords, BodyOfWords, FunctionOfWords, ObjectOfWords}
 use Rattle.cx_object.specs.Reading.{type_at, no_value_at, state_at, global_at, body_at, no_body_at, form_at, function_at, code_length, functions_at, object_at, tables_of, read_object}
 
@@ -47,14 +47,14 @@ pub record HoldsType (bounds : Bounds) (t : UnitType) : Type 0 where
 type_format : (bounds : Bounds) → IsFormat (type_at bounds) unit_type (HoldsType bounds)
 unfolding type_at
 type_format bounds = restated
-  (followed text_format (λ t. t.name) (λ name t p h. cc) (λ name p.
+    (followed text_format (λ t. t.name) (λ name t p h. cc) (λ name p.
     followed text_format (λ t. t.definition) (λ definition t p h. cc) (λ definition p.
-      followed (number_in_format 1 257 Range) (λ t. t.leaves) (λ leaves t p h. cc) (λ leaves p.
-        followed (number_in_format 0 bounds.functions_or_none Index) (λ t. t.dropper) (λ dropper t p h. cc) (λ dropper p.
-          finished (record { name = name; definition = definition; leaves = leaves; dropper = dropper }))))))
-  (λ t h. simp (append_assoc, append-nil))
-  (λ t h. record { name = h.0; definition = h.1.0; leaves = h.1.1.0.0; dropper = h.1.1.1.0 })
-  (λ t h. (h.name, (h.definition, ((h.leaves, omega (arith, h.leaves.below)), (h.dropper, refl)))))
+    followed (number_in_format 1 257 Range) (λ t. t.leaves) (λ leaves t p h. cc) (λ leaves p.
+    followed (number_in_format 0 bounds.functions_or_none Index) (λ t. t.dropper) (λ dropper t p h. cc) (λ dropper p.
+    finished (record { name = name; definition = definition; leaves = leaves; dropper = dropper }))))))
+    (λ t h. simp (append_assoc, append-nil))
+    (λ t h. record { name = h.0; definition = h.1.0; leaves = h.1.1.0.0; dropper = h.1.1.1.0 })
+    (λ t h. (h.name, (h.definition, ((h.leaves, omega (arith, h.leaves.below)), (h.dropper, refl)))))
 
 -- ---- globals
 
@@ -64,11 +64,11 @@ no_value = (0 ∷ []) ++ number 0 ++ number 0
 no_value_format : IsFormat no_value_at (λ n. no_value) (λ n. n ≡ 0)
 unfolding no_value_at
 no_value_format = restated
-  (followed (byte_in_format 0 1 Range) (λ n. 0) (λ sort n p h. omega (arith, p.below)) (λ sort p.
+    (followed (byte_in_format 0 1 Range) (λ n. 0) (λ sort n p h. omega (arith, p.below)) (λ sort p.
     followed zero_format (λ n. 0) (λ high n p h. sym p) (λ high p. zero_format)))
-  (λ n h. rw h.1.1 (simp append_assoc))
-  (λ n h. h.1.1)
-  (λ n h. (record { from = omega arith; below = omega arith }, (refl, h)))
+    (λ n h. rw h.1.1 (simp append_assoc))
+    (λ n h. h.1.1)
+    (λ n h. (record { from = omega arith; below = omega arith }, (refl, h)))
 
 state_code : GlobalState → ℕ
 state_code states.Named = 0
@@ -116,17 +116,17 @@ HoldsState code state = StateOfWords state × (state_code state ≡ code)
 state_format : (code : ℕ) → IsIn 0 3 code → IsFormat (state_at code) state_value (HoldsState code)
 unfolding state_at state_code state_value value_in
 state_format zero p = restated (followed no_value_format (λ state. 0) (λ n state p h. sym p) (λ n p. finished states.Named))
-  (λ state h. rw h.1 (simp append-nil))
-  (λ state h. subst (HoldsState 0) (sym h.1) (tt, refl))
-  (λ state h. (refl, named state h.1))
+    (λ state h. rw h.1 (simp append-nil))
+    (λ state h. subst (HoldsState 0) (sym h.1) (tt, refl))
+    (λ state h. (refl, named state h.1))
 state_format (suc zero) p = restated (followed initial_format value_in (λ value state p h. ap value_in h) (λ value p. finished (states.Defined value)))
-  (λ state h. subst (λ (s : GlobalState). initial (value_in s) ++ [] ≡ state_value s) (sym h.1) (append-nil (initial (value_in state))))
-  (λ state h. subst (HoldsState 1) (sym h.1) (h.0, refl))
-  (λ state h. (halves_in state h.1 h.0, defined state h.1))
+    (λ state h. subst (λ (s : GlobalState). initial (value_in s) ++ [] ≡ state_value s) (sym h.1) (append-nil (initial (value_in state))))
+    (λ state h. subst (HoldsState 1) (sym h.1) (h.0, refl))
+    (λ state h. (halves_in state h.1 h.0, defined state h.1))
 state_format (suc (suc zero)) p = restated (followed no_value_format (λ state. 0) (λ n state p h. sym p) (λ n p. finished states.Declared))
-  (λ state h. rw h.1 (simp append-nil))
-  (λ state h. subst (HoldsState 2) (sym h.1) (tt, refl))
-  (λ state h. (refl, declared state h.1))
+    (λ state h. rw h.1 (simp append-nil))
+    (λ state h. subst (HoldsState 2) (sym h.1) (tt, refl))
+    (λ state h. (refl, declared state h.1))
 state_format (suc (suc (suc code))) p = absurd (omega (arith, p.below))
 
 state_spelled : (state : GlobalState) → (state_code state ∷ []) ++ state_value state ≡ global_state state
@@ -149,14 +149,14 @@ pub record HoldsGlobal (g : UnitGlobal) : Type 0 where
 global_format : IsFormat global_at unit_global HoldsGlobal
 unfolding global_at
 global_format = restated
-  (followed text_format (λ g. g.name) (λ name g p h. cc) (λ name p.
+    (followed text_format (λ g. g.name) (λ name g p h. cc) (λ name p.
     followed text_format (λ g. g.type_name) (λ type_name g p h. cc) (λ type_name p.
-      followed (byte_in_format 0 3 Range) (λ g. state_code g.state) (λ code g p h. h.0.1) (λ code p.
-        followed (state_format code p) (λ g. g.state) (λ state g p h. ap (λ (g : UnitGlobal). g.state) h) (λ state p.
-          finished (record { name = name; type_name = type_name; state = state }))))))
-  (λ g h. rw (← state_spelled g.state) (simp (append_assoc, append-nil)))
-  (λ g h. record { name = h.0; type_name = h.1.0; state = h.1.1.1.0.0 })
-  (λ g h. (h.name, (h.type_name, (state_in g.state, ((h.state, refl), refl)))))
+    followed (byte_in_format 0 3 Range) (λ g. state_code g.state) (λ code g p h. h.0.1) (λ code p.
+    followed (state_format code p) (λ g. g.state) (λ state g p h. ap (λ (g : UnitGlobal). g.state) h) (λ state p.
+    finished (record { name = name; type_name = type_name; state = state }))))))
+    (λ g h. rw (← state_spelled g.state) (simp (append_assoc, append-nil)))
+    (λ g h. record { name = h.0; type_name = h.1.0; state = h.1.1.1.0.0 })
+    (λ g h. (h.name, (h.type_name, (state_in g.state, ((h.state, refl), refl)))))
 
 -- ---- bodies
 
@@ -172,29 +172,34 @@ six_parts a b c d e f = simp (append_assoc, append-nil)
 body_format : (bounds : Bounds) (room : ℕ) → IsFormat (body_at bounds room) function_body (HoldsBody bounds room)
 unfolding body_at
 body_format bounds room = restated
-  (followed flag_format (λ b. b.counted) (λ counted b p h. cc) (λ counted p.
+    (followed flag_format (λ b. b.counted) (λ counted b p h. cc) (λ counted p.
     followed (number_in_format 0 8193 Range) (λ b. b.parameters) (λ parameters b p h. cc) (λ parameters p.
-      followed (number_in_format parameters 8193 Range) (λ b. b.slots) (λ slots b p h. cc) (λ slots p.
-        followed flag_format (λ b. b.result) (λ result b p h. cc) (λ result p.
-          followed (code_format bounds room) (λ b. b.code) (λ code b p h. cc) (λ code p.
-            followed (list_format (region_format bounds)) (λ b. b.regions) (λ regions b p h. cc) (λ regions p.
-              finished (record { counted = counted; parameters = parameters; slots = slots; result = result; code = code; regions = regions }))))))))
-  (λ b h. six_parts (flag b.counted) (number b.parameters) (number b.slots) (flag b.result) (list instruction b.code) (list region b.regions))
-  (λ b h. record { parameters = h.1.1.0.0.from; slots = omega (arith, h.1.1.0.0.below); code = h.1.1.1.1.0; regions = h.1.1.1.1.1.0 })
-  (λ b h. (tt, ((record { from = omega arith; below = omega (arith, h.parameters, h.slots) }, omega (arith, h.parameters, h.slots)),
-    ((record { from = h.parameters; below = omega (arith, h.slots) }, omega (arith, h.slots)), (tt, (h.code, (h.regions, refl)))))))
+    followed (number_in_format parameters 8193 Range) (λ b. b.slots) (λ slots b p h. cc) (λ slots p.
+    followed flag_format (λ b. b.result) (λ result b p h. cc) (λ result p.
+    followed (code_format bounds room) (λ b. b.code) (λ code b p h. cc) (λ code p.
+    followed (list_format (region_format bounds)) (λ b. b.regions) (λ regions b p h. cc) (λ regions p.
+    finished (record { counted = counted; parameters = parameters; slots = slots; result = result; code = code; regions = regions }))))))))
+    (λ b h. six_parts (flag b.counted) (number b.parameters) (number b.slots) (flag b.result) (list instruction b.code) (list region b.regions))
+    (λ b h. record { parameters = h.1.1.0.0.from; slots = omega (arith, h.1.1.0.0.below); code = h.1.1.1.1.0; regions = h.1.1.1.1.1.0 })
+    (λ b h. (
+      tt,
+      (
+        (record { from = omega arith; below = omega (arith, h.parameters, h.slots) }, omega (arith, h.parameters, h.slots)),
+        ((record { from = h.parameters; below = omega (arith, h.slots) }, omega (arith, h.slots)), (tt, (h.code, (h.regions, refl)))),
+      ),
+    ))
 
 no_body_format : IsFormat no_body_at (λ n. no_body) (λ n. n ≡ 0)
 unfolding no_body_at
 no_body_format = restated
-  (followed (byte_in_format 0 1 Range) (λ n. 0) (λ counted n p h. omega (arith, p.below)) (λ counted p.
+    (followed (byte_in_format 0 1 Range) (λ n. 0) (λ counted n p h. omega (arith, p.below)) (λ counted p.
     followed zero_format (λ n. 0) (λ parameters n p h. sym p) (λ parameters p.
-      followed zero_format (λ n. 0) (λ slots n p h. sym p) (λ slots p.
-        followed (byte_in_format 0 1 Range) (λ n. 0) (λ result n p h. omega (arith, p.below)) (λ result p.
-          followed zero_format (λ n. 0) (λ code n p h. sym p) (λ code p. zero_format))))))
-  (λ n h. rw h.1.1.1.1.1 (simp append_assoc))
-  (λ n h. h.1.1.1.1.1)
-  (λ n h. let none : IsIn 0 1 0 = record { from = omega arith; below = omega arith } in (none, (refl, (refl, (none, (refl, h))))))
+    followed zero_format (λ n. 0) (λ slots n p h. sym p) (λ slots p.
+    followed (byte_in_format 0 1 Range) (λ n. 0) (λ result n p h. omega (arith, p.below)) (λ result p.
+    followed zero_format (λ n. 0) (λ code n p h. sym p) (λ code p. zero_format))))))
+    (λ n h. rw h.1.1.1.1.1 (simp append_assoc))
+    (λ n h. h.1.1.1.1.1)
+    (λ n h. let none : IsIn 0 1 0 = record { from = omega arith; below = omega arith } in (none, (refl, (refl, (none, (refl, h))))))
 
 -- ---- forms
 
@@ -274,30 +279,30 @@ nothing_short = omega arith
 form_format : (bounds : Bounds) (room code : ℕ) → IsIn 0 5 code → IsFormat (form_at bounds room code) form_spelled (HoldsCode bounds room code)
 unfolding form_at body_in
 form_format bounds room zero p = restated
-  (followed zero_format (λ form. 0) (λ n form p h. sym p) (λ n p. followed no_body_format (λ form. 0) (λ n form p h. sym p) (λ n p. finished forms.Needed)))
-  (λ form h. rw h.1.1 (empty_then (number 0) no_body))
-  (λ form h. subst (HoldsCode bounds room 0) (sym h.1.1) (record { definition = nothing_short; body = tt }, refl))
-  (λ form h. (refl, (refl, needed form h.1)))
+    (followed zero_format (λ form. 0) (λ n form p h. sym p) (λ n p. followed no_body_format (λ form. 0) (λ n form p h. sym p) (λ n p. finished forms.Needed)))
+    (λ form h. rw h.1.1 (empty_then (number 0) no_body))
+    (λ form h. subst (HoldsCode bounds room 0) (sym h.1.1) (record { definition = nothing_short; body = tt }, refl))
+    (λ form h. (refl, (refl, needed form h.1)))
 form_format bounds room (suc zero) p = restated
-  (followed zero_format (λ form. 0) (λ n form p h. sym p) (λ n p. followed (body_format bounds room) body_in (λ body form p h. ap body_in h) (λ body p. finished (forms.Defined body))))
-  (λ form h. subst (λ (f : FunctionForm). number 0 ++ (function_body (body_in f) ++ []) ≡ form_spelled f) (sym h.1.1) (empty_then (number 0) (function_body (body_in form))))
-  (λ form h. subst (HoldsCode bounds room 1) (sym h.1.1) (record { definition = nothing_short; body = h.1.0 }, refl))
-  (λ form h. let e = defined_form form h.1 in (refl, ((subst (λ (f : FunctionForm). HoldsForm bounds room f) e h.0).body, e)))
+    (followed zero_format (λ form. 0) (λ n form p h. sym p) (λ n p. followed (body_format bounds room) body_in (λ body form p h. ap body_in h) (λ body p. finished (forms.Defined body))))
+    (λ form h. subst (λ (f : FunctionForm). number 0 ++ (function_body (body_in f) ++ []) ≡ form_spelled f) (sym h.1.1) (empty_then (number 0) (function_body (body_in form))))
+    (λ form h. subst (HoldsCode bounds room 1) (sym h.1.1) (record { definition = nothing_short; body = h.1.0 }, refl))
+    (λ form h. let e = defined_form form h.1 in (refl, ((subst (λ (f : FunctionForm). HoldsForm bounds room f) e h.0).body, e)))
 form_format bounds room (suc (suc zero)) p = restated
-  (followed text_format definition_text (λ tokens form p h. ap definition_text h.1) (λ tokens p. followed (body_format bounds room) body_in (λ body form p h. ap body_in h) (λ body p. finished (forms.Inline tokens body))))
-  (λ form h. subst (λ (f : FunctionForm). text (definition_text f) ++ (function_body (body_in f) ++ []) ≡ form_spelled f) (sym h.1.1) (ap (λ (tail : List ℕ). text (definition_text form) ++ tail) (append-nil (function_body (body_in form)))))
-  (λ form h. subst (HoldsCode bounds room 2) (sym h.1.1) (record { definition = h.0; body = h.1.0 }, refl))
-  (λ form h. let e = inline_form form h.1 in (h.0.definition, ((subst (λ (f : FunctionForm). HoldsForm bounds room f) e h.0).body, e)))
+    (followed text_format definition_text (λ tokens form p h. ap definition_text h.1) (λ tokens p. followed (body_format bounds room) body_in (λ body form p h. ap body_in h) (λ body p. finished (forms.Inline tokens body))))
+    (λ form h. subst (λ (f : FunctionForm). text (definition_text f) ++ (function_body (body_in f) ++ []) ≡ form_spelled f) (sym h.1.1) (ap (λ (tail : List ℕ). text (definition_text form) ++ tail) (append-nil (function_body (body_in form)))))
+    (λ form h. subst (HoldsCode bounds room 2) (sym h.1.1) (record { definition = h.0; body = h.1.0 }, refl))
+    (λ form h. let e = inline_form form h.1 in (h.0.definition, ((subst (λ (f : FunctionForm). HoldsForm bounds room f) e h.0).body, e)))
 form_format bounds room (suc (suc (suc zero))) p = restated
-  (followed zero_format (λ form. 0) (λ n form p h. sym p) (λ n p. followed (body_format bounds room) body_in (λ body form p h. ap body_in h) (λ body p. finished (forms.Helper body))))
-  (λ form h. subst (λ (f : FunctionForm). number 0 ++ (function_body (body_in f) ++ []) ≡ form_spelled f) (sym h.1.1) (empty_then (number 0) (function_body (body_in form))))
-  (λ form h. subst (HoldsCode bounds room 3) (sym h.1.1) (record { definition = nothing_short; body = h.1.0 }, refl))
-  (λ form h. let e = helper_form form h.1 in (refl, ((subst (λ (f : FunctionForm). HoldsForm bounds room f) e h.0).body, e)))
+    (followed zero_format (λ form. 0) (λ n form p h. sym p) (λ n p. followed (body_format bounds room) body_in (λ body form p h. ap body_in h) (λ body p. finished (forms.Helper body))))
+    (λ form h. subst (λ (f : FunctionForm). number 0 ++ (function_body (body_in f) ++ []) ≡ form_spelled f) (sym h.1.1) (empty_then (number 0) (function_body (body_in form))))
+    (λ form h. subst (HoldsCode bounds room 3) (sym h.1.1) (record { definition = nothing_short; body = h.1.0 }, refl))
+    (λ form h. let e = helper_form form h.1 in (refl, ((subst (λ (f : FunctionForm). HoldsForm bounds room f) e h.0).body, e)))
 form_format bounds room (suc (suc (suc (suc zero)))) p = restated
-  (followed zero_format (λ form. 0) (λ n form p h. sym p) (λ n p. followed no_body_format (λ form. 0) (λ n form p h. sym p) (λ n p. finished forms.Declared)))
-  (λ form h. rw h.1.1 (empty_then (number 0) no_body))
-  (λ form h. subst (HoldsCode bounds room 4) (sym h.1.1) (record { definition = nothing_short; body = tt }, refl))
-  (λ form h. (refl, (refl, declared_form form h.1)))
+    (followed zero_format (λ form. 0) (λ n form p h. sym p) (λ n p. followed no_body_format (λ form. 0) (λ n form p h. sym p) (λ n p. finished forms.Declared)))
+    (λ form h. rw h.1.1 (empty_then (number 0) no_body))
+    (λ form h. subst (HoldsCode bounds room 4) (sym h.1.1) (record { definition = nothing_short; body = tt }, refl))
+    (λ form h. (refl, (refl, declared_form form h.1)))
 form_format bounds room (suc (suc (suc (suc (suc code))))) p = absurd (omega (arith, p.below))
 
 -- ---- functions
@@ -311,20 +316,20 @@ pub record HoldsFunction (bounds : Bounds) (room : ℕ) (f : UnitFunction) : Typ
 function_format : (bounds : Bounds) (room : ℕ) → IsFormat (function_at bounds room) unit_function (HoldsFunction bounds room)
 unfolding function_at
 function_format bounds room = restated
-  (followed text_format (λ f. f.name) (λ name f p h. cc) (λ name p.
+    (followed text_format (λ f. f.name) (λ name f p h. cc) (λ name p.
     followed (byte_in_format 0 5 Range) (λ f. form_code f.form) (λ code f p h. h.1.1.0.1) (λ code sort.
-      followed text_format (λ f. f.signature) (λ signature f p h. cc) (λ signature p.
-        followed text_format (λ f. f.specifiers) (λ specifiers f p h. cc) (λ specifiers p.
-          followed (form_format bounds room code sort) (λ f. f.form) (λ form f p h. ap (λ (f : UnitFunction). f.form) h) (λ form p.
-            finished (record { name = name; signature = signature; specifiers = specifiers; form = form })))))))
-  (λ f h. simp (append_assoc, append-nil))
-  (λ f h. record { name = h.0; signature = h.1.1.0; specifiers = h.1.1.1.0; form = h.1.1.1.1.0.0 })
-  (λ f h. (h.name, (code_in f.form, (h.signature, (h.specifiers, ((h.form, refl), refl))))))
+    followed text_format (λ f. f.signature) (λ signature f p h. cc) (λ signature p.
+    followed text_format (λ f. f.specifiers) (λ specifiers f p h. cc) (λ specifiers p.
+    followed (form_format bounds room code sort) (λ f. f.form) (λ form f p h. ap (λ (f : UnitFunction). f.form) h) (λ form p.
+    finished (record { name = name; signature = signature; specifiers = specifiers; form = form })))))))
+    (λ f h. simp (append_assoc, append-nil))
+    (λ f h. record { name = h.0; signature = h.1.1.0; specifiers = h.1.1.1.0; form = h.1.1.1.1.0.0 })
+    (λ f h. (h.name, (code_in f.form, (h.signature, (h.specifiers, ((h.form, refl), refl))))))
 
 functions_format : (bounds : Bounds) → IsFormat (functions_at bounds) (list unit_function) (λ fs. (length fs ≤ 262144) × HoldsEach code_length (HoldsFunction bounds) 8388609 fs)
 unfolding functions_at
 functions_format bounds = restated (followed (number_in_format 0 262145 Limit) (λ fs. length fs) (λ count fs p h. h.0) (λ count h. each_format code_length (function_at bounds) unit_function (HoldsFunction bounds) (function_format bounds) count 8388609))
-  (λ fs h. refl) (λ fs h. (omega (arith, h.0.0.below), h.1.1)) (λ fs h. ((record { from = omega arith; below = omega (arith, h.0) }, omega (arith, h.0)), (refl, h.1)))
+    (λ fs h. refl) (λ fs h. (omega (arith, h.0.0.below), h.1.1)) (λ fs h. ((record { from = omega arith; below = omega (arith, h.0) }, omega (arith, h.0)), (refl, h.1)))
 
 -- ---- objects
 
@@ -343,17 +348,17 @@ word_is = refl
 object_format : (bounds : Bounds) → IsFormat (object_at bounds) object_spelling (HoldsObject bounds)
 unfolding object_at object_spelling
 object_format bounds = restated
-  (followed (head_format 1129860930 (omega arith)) (λ object. 1) (λ version object p h. sym p) (λ version p.
+    (followed (head_format 1129860930 (omega arith)) (λ object. 1) (λ version object p h. sym p) (λ version p.
     followed text_format (λ object. object.unit) (λ unit object p h. cc) (λ unit p.
-      followed (list_format text_format) (λ object. object.texts) (λ texts object p h. cc) (λ texts p.
-        followed (list_format (type_format bounds)) (λ object. object.types) (λ types object p h. cc) (λ types p.
-          followed (list_format global_format) (λ object. object.globals) (λ globals object p h. cc) (λ globals p.
-            followed (functions_format bounds) (λ object. object.functions) (λ functions object p h. cc) (λ functions p.
-              followed (assertions_format bounds) (λ object. object.assertions) (λ assertions object p h. cc) (λ assertions p.
-                finished (record { unit = unit; texts = texts; types = types; globals = globals; functions = functions; assertions = assertions })))))))))
-  (λ object h. rw word_is (simp (append_assoc, append-nil)))
-  (λ object h. record { unit = h.1.0; texts = h.1.1.0; types = h.1.1.1.0; globals = h.1.1.1.1.0; functions = h.1.1.1.1.1.0; assertions = h.1.1.1.1.1.1.0 })
-  (λ object h. (refl, (h.unit, (h.texts, (h.types, (h.globals, (h.functions, (h.assertions, refl))))))))
+    followed (list_format text_format) (λ object. object.texts) (λ texts object p h. cc) (λ texts p.
+    followed (list_format (type_format bounds)) (λ object. object.types) (λ types object p h. cc) (λ types p.
+    followed (list_format global_format) (λ object. object.globals) (λ globals object p h. cc) (λ globals p.
+    followed (functions_format bounds) (λ object. object.functions) (λ functions object p h. cc) (λ functions p.
+    followed (assertions_format bounds) (λ object. object.assertions) (λ assertions object p h. cc) (λ assertions p.
+    finished (record { unit = unit; texts = texts; types = types; globals = globals; functions = functions; assertions = assertions })))))))))
+    (λ object h. rw word_is (simp (append_assoc, append-nil)))
+    (λ object h. record { unit = h.1.0; texts = h.1.1.0; types = h.1.1.1.0; globals = h.1.1.1.1.0; functions = h.1.1.1.1.1.0; assertions = h.1.1.1.1.1.1.0 })
+    (λ object h. (refl, (h.unit, (h.texts, (h.types, (h.globals, (h.functions, (h.assertions, refl))))))))
 
 -- ---- without bounds
 
@@ -406,19 +411,19 @@ below_some false bound n end other f h = f h
 has_index : (object : Object) (i : Instruction) → i.a < operand_end (tables_of object) i.code → HasIndex object i
 has_index object i h =
     some_below (eqb i.code 38) (length object.functions) i.a _ _
-      (some_below (eqb i.code 40) (length object.globals) i.a _ _
-        (some_below (eqb i.code 43) (length object.texts + 1) i.a _ _
-          (some_below (eqb i.code 44 || eqb i.code 45 || eqb i.code 46) (length object.assertions) i.a _ _
-            (some_below (eqb i.code 49 || eqb i.code 54) (length object.types) i.a (2 ^ 32) None (λ h. tt))))) h
+    (some_below (eqb i.code 40) (length object.globals) i.a _ _
+    (some_below (eqb i.code 43) (length object.texts + 1) i.a _ _
+    (some_below (eqb i.code 44 || eqb i.code 45 || eqb i.code 46) (length object.assertions) i.a _ _
+    (some_below (eqb i.code 49 || eqb i.code 54) (length object.types) i.a (2 ^ 32) None (λ h. tt))))) h
 
 index_below : (object : Object) (i : Instruction) → OfWords i → HasIndex object i → HoldsInstruction (tables_of object) i
 index_below object i words h = record {
   words = words;
   index = below_some (eqb i.code 38) (length object.functions) i.a _ _
-    (below_some (eqb i.code 40) (length object.globals) i.a _ _
+      (below_some (eqb i.code 40) (length object.globals) i.a _ _
       (below_some (eqb i.code 43) (length object.texts + 1) i.a _ _
-        (below_some (eqb i.code 44 || eqb i.code 45 || eqb i.code 46) (length object.assertions) i.a _ _
-          (below_some (eqb i.code 49 || eqb i.code 54) (length object.types) i.a (2 ^ 32) None (λ h. words.a))))) h;
+      (below_some (eqb i.code 44 || eqb i.code 45 || eqb i.code 46) (length object.assertions) i.a _ _
+      (below_some (eqb i.code 49 || eqb i.code 54) (length object.types) i.a (2 ^ 32) None (λ h. words.a))))) h;
 }
 
 has_caught : (object : Object) (r : Region) → r.of < caught_end (tables_of object) r.kind → HasCaught object r
@@ -515,9 +520,12 @@ holds_body object room b le fit s w = record {
   parameters = s.parameters;
   slots = s.slots;
   code = (fit, omega (arith, fit, le), each_of_both OfWords (HasIndex object) (HoldsInstruction (tables_of object)) (index_below object) b.code w.code s.indices);
-  regions = (s.regions, each_of_both OfPlaces (KeptRegion object) (HoldsRegion (tables_of object))
-    (λ r places kept. record { places = places; storable = kept.0; index = caught_below object r places.of kept.1 (eqb r.kind 2) refl })
-    b.regions w.regions (λ k d lt. (s.each_region k d lt, s.caught k d lt)));
+  regions = (
+    s.regions,
+    each_of_both OfPlaces (KeptRegion object) (HoldsRegion (tables_of object))
+        (λ r places kept. record { places = places; storable = kept.0; index = caught_below object r places.of kept.1 (eqb r.kind 2) refl })
+        b.regions w.regions (λ k d lt. (s.each_region k d lt, s.caught k d lt)),
+  );
 }
 
 holds_some : (object : Object) (room : ℕ) (form : FunctionForm) → room ≤ 8388609 → instruction_count form < room → IfSome (body_of form) (IsStorableBody object) → IfSome (body_of form) BodyOfWords → IfSome (body_of form) (HoldsBody (tables_of object) room)
@@ -554,8 +562,11 @@ holds object s w = record {
   texts = (s.texts, recursion_from_All IsShort object.texts s.each_text);
   types = (s.types, each_of (IsStorableUnitType object) (HoldsType (tables_of object)) (holds_type object s.functions) object.types s.each_type);
   globals = (s.globals, each_of_both IsStorableUnitGlobal GlobalOfWords HoldsGlobal (λ g p q. record { name = p.name; type_name = p.type_name; state = q }) object.globals s.each_global w.globals);
-  functions = (s.functions, weighed_of code_length (HoldsFunction (tables_of object)) (KeptFunction object) 8388609 (holds_function object) 8388609 object.functions (omega arith) (omega (arith, s.instructions))
-    (each_of_both (IsStorableUnitFunction object) FunctionOfWords (KeptFunction object) (λ f p q. (p, q)) object.functions s.each_function w.functions));
+  functions = (
+    s.functions,
+    weighed_of code_length (HoldsFunction (tables_of object)) (KeptFunction object) 8388609 (holds_function object) 8388609 object.functions (omega arith) (omega (arith, s.instructions))
+        (each_of_both (IsStorableUnitFunction object) FunctionOfWords (KeptFunction object) (λ f p q. (p, q)) object.functions s.each_function w.functions),
+  );
   assertions = (s.assertions, each_of_both (IsStorableUnitAssertion object) OfPosition (HoldsAssertion (tables_of object)) (holds_assertion object s.functions s.texts) object.assertions s.each_assertion w.assertions);
 }
 

@@ -1,5 +1,5 @@
 -- The numbers of an object that no limit bounds are of 32 bits, as each number of the program is; a clause that speaks of every object of ghost numbers has this as its premise.
-use Rattle.std.specs.Prelude.{ℕ, Option, IfSome, ⊤}
+use Rattle.std.specs.Prelude.{IfSome, ⊤}
 use Rattle.std.specs.List.{All}
 use Rattle.cx_code.specs.declared.object.Object.{Object}
 use Rattle.cx_code.specs.declared.object.UnitGlobal.{UnitGlobal}

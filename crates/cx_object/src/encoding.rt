@@ -7,7 +7,9 @@ ghost use Rattle.cx_code.specs.ObjectSpelling.{unit_type, global_state, unit_glo
 ghost use Rattle.cx_code.specs.Storable.{IsShort};
 ghost use Rattle.cx_code.specs.ObjectStorable.{body_of, instruction_count, IsStorableObject, IsStorableUnitType, IsStorableUnitGlobal, IsStorableUnitFunction, IsStorableBody};
 
-use cx_code::{FunctionBody, FunctionForm, GlobalState, Object, UnitFunction, UnitGlobal, UnitType};
+use cx_code::{
+    FunctionBody, FunctionForm, GlobalState, Object, UnitFunction, UnitGlobal, UnitType,
+};
 use cx_fields::{
     put_assertions, put_code, put_count, put_flag, put_initial, put_number, put_regions, put_text,
     put_texts,

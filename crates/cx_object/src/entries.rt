@@ -106,10 +106,7 @@ fn global_of(alloc: Global, rest: Rest) -> Result<(UnitGlobal, Rest), ReadFault>
 }
 
 #[tactic(auto, unfolding(cx_fields::specs::Reading::list_at))]
-pub(crate) fn globals_of(
-    alloc: Global,
-    rest: Rest,
-) -> Result<(Items<UnitGlobal>, Rest), ReadFault>
+pub(crate) fn globals_of(alloc: Global, rest: Rest) -> Result<(Items<UnitGlobal>, Rest), ReadFault>
     ensures { Gives (λ x. (x.0, unread x.1)) result (list_at global_at (unread rest.entry)) }
 {
     let (count, rest) = rest.number()?;
@@ -254,9 +251,8 @@ fn code_length(function: &UnitFunction) -> usize
 {
     match &function.form {
         FunctionForm::Needed | FunctionForm::Declared => 0,
-        FunctionForm::Defined(body) | FunctionForm::Inline(_, body) | FunctionForm::Helper(body) => {
-            body.code.items().len()
-        }
+        FunctionForm::Defined(body) | FunctionForm::Inline(_, body) | FunctionForm::Helper(body) =>
+            { body.code.items().len() }
     }
 }
 
