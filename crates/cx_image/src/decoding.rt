@@ -214,8 +214,11 @@ fn whole(alloc: Global, bytes: &[u8]) -> Result<Image, ReadFault>
     ensures { Gives (λ image. image) result (read_image bytes.now) }
 {
     let start = Rest::new(bytes);
-    let (first, _) = image_of(alloc, &Bounds::none(), start)?;
-    let bounds = tables_of(&first);
+    // Indices are judged after the last field, so the tables are read first, and given up.
+    let bounds = {
+        let (tables, _) = image_of(alloc, &Bounds::none(), start)?;
+        tables_of(&tables)
+    };
     let (image, rest) = image_of(alloc, &bounds, start)?;
     if !rest.is_empty() {
         return Err(rest.fault(Why::Trailing));

@@ -1,1 +1,2 @@
-pub mod ObjectFormat
+mod ObjectFormat
+mod ObjectLaws

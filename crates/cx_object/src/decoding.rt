@@ -73,8 +73,11 @@ fn whole(alloc: Global, bytes: &[u8]) -> Result<Object, ReadFault>
     ensures { Gives (λ object. object) result (read_object bytes.now) }
 {
     let start = Rest::new(bytes);
-    let (first, _) = object_of(alloc, &Bounds::none(), start)?;
-    let bounds = tables_of(&first);
+    // Indices are judged after the last field, so the tables are read first, and given up.
+    let bounds = {
+        let (tables, _) = object_of(alloc, &Bounds::none(), start)?;
+        tables_of(&tables)
+    };
     let (object, rest) = object_of(alloc, &bounds, start)?;
     if !rest.is_empty() {
         return Err(rest.fault(Why::Trailing));

@@ -1,7 +1,7 @@
 use Rattle.std.proofs.Common.{ap, subst, ◌∙◌, arith}
 use Rattle.cx_fields.specs.Reading.{Gives}
 use Rattle.cx_object.specs.Reading.{read_object}
-use Rattle.cx_object.proofs.ObjectFormat.{is_found, object_again}
+use Rattle.cx_object.proofs.ObjectLaws.{is_found, object_again}
 use Rattle.cx_object.proofs.decoding.decode.Goals as goal
 
 pub returns-clause-found : goal.returns-clause-found

@@ -1,4 +1,4 @@
-use Rattle.cx_object.proofs.ObjectFormat.{object_takes}
+use Rattle.cx_object.proofs.ObjectLaws.{object_takes}
 use Rattle.cx_object.proofs.laws.what_is_read_is_spelled.Goals as goal
 
 pub returns : goal.returns
