@@ -1,17 +1,25 @@
-ghost use Rattle.std.specs.Prelude.{◌≡◌, ◌<◌, ◌^◌, length};
+ghost use Rattle.std.specs.Prelude.{◌≡◌, ◌<◌, ◌^◌};
 ghost use Rattle.cx_fields.specs.Parts.{unbounded, bounds_of, operand_end, caught_end};
 
 /// For each kind of index field the first number that is out of its table. The fields that may also name no entry hold
 /// an index plus 1, or 0. (This project's own.)
 #[derive(Clone, Copy, Debug)]
 pub struct Bounds {
+    /// Of a text.
     pub texts: u64,
+    /// Of a text, or none.
     pub texts_or_none: u64,
+    /// Of a type.
     pub types: u64,
+    /// Of a type, or none.
     pub types_or_none: u64,
+    /// Of a global.
     pub globals: u64,
+    /// Of a function.
     pub functions: u64,
+    /// Of a function, or none.
     pub functions_or_none: u64,
+    /// Of an assertion.
     pub assertions: u64,
 }
 
@@ -59,7 +67,8 @@ impl Bounds {
         }
     }
 
-    /// What an instruction's first number must be below.
+    /// What an instruction's first number must be below: by its code, of `call`, `global`, `text_at`, `begin`, `verdict`,
+    /// `violate`, `throw` and `destroyed`.
     pub(crate) fn operand_end(&self, code: u8) -> u64
         ensures { result ≡ operand_end self.now code }
     {

@@ -1,4 +1,4 @@
-ghost use Rattle.std.specs.Prelude.{◌≡◌, ◌<◌, ◌^◌};
+ghost use Rattle.std.specs.Prelude.{◌≡◌};
 ghost use Rattle.cx_fields.specs.Reading.{Gives, unread, text_at, list_at, many_at};
 ghost use Rattle.cx_fields.specs.Parts.{instruction_at, code_at, region_at, value_at, initial_at, assertion_at, assertions_at, kind_of};
 

@@ -7,7 +7,7 @@ use byteorder::{BigEndian, ByteOrder};
 use cx_outside::Text;
 use std::alloc::Global;
 
-/// No file has more bytes than this.
+/// The largest file has so many bytes.
 const FILE_LIMIT: usize = 134_217_728;
 
 /// The bytes of a file that are not read yet, with their place. (This project's own.)
@@ -57,7 +57,7 @@ impl<'a> Rest<'a> {
 
     /// A byte, and what follows it. (This project's own.)
     ///
-    /// `Bad`: the field is cut, ends past the largest file, or its value isn't allowed.
+    /// `Bad`: the field is cut, or it ends past the largest file.
     #[tactic(auto, unfolding(crate::specs::Reading::byte_at))]
     pub fn byte(self) -> Result<(u8, Rest<'a>), ReadFault>
         ensures { Gives (λ x. (x.0, unread x.1)) result (byte_at (unread self.entry)) }
@@ -68,7 +68,7 @@ impl<'a> Rest<'a> {
 
     /// A number of four bytes, the high one first, and what follows it. (This project's own.)
     ///
-    /// `Bad`: the field is cut, ends past the largest file, or its value isn't allowed.
+    /// `Bad`: the field is cut, or it ends past the largest file.
     #[tactic(auto, unfolding(crate::specs::Reading::number_at))]
     pub fn number(self) -> Result<(u32, Rest<'a>), ReadFault>
         ensures { Gives (λ x. (x.0, unread x.1)) result (number_at (unread self.entry)) }
@@ -131,7 +131,7 @@ impl<'a> Rest<'a> {
     /// A text, which is its length and its bytes, and what follows it. (This project's own.)
     ///
     /// - `OutOfMemory`: there was no memory for it.
-    /// - `Bad`: one of its two fields is cut, ends past the largest file, or the length is no file's.
+    /// - `Bad`: one of its two fields is cut or ends past the largest file, or the length passes that of the largest file.
     #[tactic(auto, unfolding(crate::specs::Reading::text_at))]
     pub fn text(self, alloc: Global) -> Result<(Text, Rest<'a>), ReadFault>
         ensures { Gives (λ x. (x.0, unread x.1)) result (text_at (unread self.entry)) }

@@ -5,7 +5,7 @@ ghost use Rattle.cx_code.specs.declared.object.UnitFunction.{UnitFunction};
 ghost use Rattle.cx_code.specs.Spelling.{number, list, text};
 ghost use Rattle.cx_code.specs.ObjectSpelling.{unit_type, global_state, unit_global, form_code, definition_text, form_body, function_body, no_body, unit_function, object_spelling};
 ghost use Rattle.cx_code.specs.Storable.{IsShort};
-ghost use Rattle.cx_code.specs.ObjectStorable.{body_of, instruction_count, IsStorableObject, IsStorableUnitType, IsStorableUnitGlobal, IsStorableUnitFunction, IsStorableBody};
+ghost use Rattle.cx_code.specs.ObjectStorable.{body_of, instruction_count, IsStorableObject, IsStorableUnitType, IsStorableUnitGlobal, IsStorableUnitFunction};
 
 use cx_code::{
     FunctionBody, FunctionForm, GlobalState, Object, UnitFunction, UnitGlobal, UnitType,
