@@ -1,1 +1,2 @@
+pub mod ImageFormat
 mod Sample

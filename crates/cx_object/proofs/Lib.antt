@@ -1,0 +1,2 @@
+mod ObjectFormat
+mod ObjectLaws
