@@ -7,7 +7,7 @@ use cx_code::{Kind, Scalar};
 
 /// The number with each bit of `x` turned ([expr.unary.op]): modulo 2 ^ n where the type `scalar` is
 /// unsigned. `Overflow` where it isn't of the type, as for a `bool`, and `Mixed` where `x` isn't.
-#[inline]
+#[inline(always)]
 pub fn complement(scalar: Scalar, x: i128) -> Result<i128, Kind>
     ensures { outcome result ≡ complement scalar x }
 {
@@ -19,7 +19,7 @@ pub fn complement(scalar: Scalar, x: i128) -> Result<i128, Kind>
 
 /// The number with the bits that `x` and `y`, both of the type `scalar`, have in common
 /// ([expr.bit.and]). `Mixed` where an operand isn't of the type.
-#[inline]
+#[inline(always)]
 pub fn both_bits(scalar: Scalar, x: i128, y: i128) -> Result<i128, Kind>
     ensures { outcome result ≡ both_bits scalar x y }
 {
@@ -31,7 +31,7 @@ pub fn both_bits(scalar: Scalar, x: i128, y: i128) -> Result<i128, Kind>
 
 /// The number with the bits that `x` or `y`, both of the type `scalar`, has ([expr.or]). `Mixed` where
 /// an operand isn't of the type.
-#[inline]
+#[inline(always)]
 pub fn either_bits(scalar: Scalar, x: i128, y: i128) -> Result<i128, Kind>
     ensures { outcome result ≡ either_bits scalar x y }
 {
@@ -43,7 +43,7 @@ pub fn either_bits(scalar: Scalar, x: i128, y: i128) -> Result<i128, Kind>
 
 /// The number with the bits that exactly one of `x` and `y`, both of the type `scalar`, has
 /// ([expr.xor]). `Mixed` where an operand isn't of the type.
-#[inline]
+#[inline(always)]
 pub fn different_bits(scalar: Scalar, x: i128, y: i128) -> Result<i128, Kind>
     ensures { outcome result ≡ different_bits scalar x y }
 {

@@ -5,7 +5,7 @@ ghost use Rattle.cx_code.specs.Arithmetic.{wrapped, number_as, value_as, is_int}
 use cx_code::{Scalar, Value};
 
 /// A number as one of a type: modulo 2 ^ n, and as a `bool` by being not 0.
-#[inline]
+#[inline(always)]
 pub fn convert_number(scalar: Scalar, n: i128) -> i128
     ensures { result ≡ number_as scalar n }
 {
@@ -57,7 +57,7 @@ fn low_64(n: i128) -> u64
 
 /// A value as a number of the type `scalar` ([conv.integral], [conv.bool]): modulo 2 ^ n, and to `bool`
 /// by being not 0 or not null. `None` for a pointer where the type isn't `bool`.
-#[inline]
+#[inline(always)]
 pub fn convert(scalar: Scalar, value: Value) -> Option<i128>
     ensures { result ≡ value_as scalar value }
 {
@@ -70,7 +70,7 @@ pub fn convert(scalar: Scalar, value: Value) -> Option<i128>
 }
 
 /// A number as an `int`. `None` where it is out of its range. (This project's own.)
-#[inline]
+#[inline(always)]
 pub fn int_value(n: i128) -> Option<i32>
     ensures { result ≡ (if is_int n then Some n else None) }
 {

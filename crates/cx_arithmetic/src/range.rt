@@ -6,6 +6,7 @@ use crate::conversion::convert_number;
 use cx_code::{Kind, Scalar};
 
 /// The least number of a type.
+#[inline(always)]
 fn least(scalar: Scalar) -> i128
     ensures { result ≡ least scalar }
 {
@@ -18,6 +19,7 @@ fn least(scalar: Scalar) -> i128
 }
 
 /// The greatest number of a type.
+#[inline(always)]
 fn greatest(scalar: Scalar) -> i128
     ensures { result ≡ greatest scalar }
 {
@@ -32,7 +34,7 @@ fn greatest(scalar: Scalar) -> i128
 }
 
 /// A number is one of the type.
-#[inline]
+#[inline(always)]
 pub fn is_within(scalar: Scalar, n: i128) -> bool
     ensures { result ≡ is_within scalar n }
 {
@@ -40,7 +42,7 @@ pub fn is_within(scalar: Scalar, n: i128) -> bool
 }
 
 /// Both numbers are of the type.
-#[inline]
+#[inline(always)]
 pub fn are_within(scalar: Scalar, x: i128, y: i128) -> bool
     ensures { result ≡ (is_within scalar x && is_within scalar y) }
 {
@@ -49,7 +51,7 @@ pub fn are_within(scalar: Scalar, x: i128, y: i128) -> bool
 
 /// A result as a number of its type: modulo 2 ^ n where the type is `unsigned` or
 /// `unsigned long long` ([basic.fundamental]), else it must be in range ([expr.pre]).
-#[inline]
+#[inline(always)]
 pub fn fitted(scalar: Scalar, n: i128) -> Result<i128, Kind>
     ensures { outcome result ≡ fitted scalar n }
 {

@@ -7,7 +7,7 @@ use cx_code::{Kind, Scalar};
 
 /// The negative of a number `x` of the type `scalar` ([expr.unary.op]): modulo 2 ^ n where the type is
 /// unsigned. `Overflow` where it isn't of the type, `Mixed` where `x` isn't.
-#[inline]
+#[inline(always)]
 pub fn negated(scalar: Scalar, x: i128) -> Result<i128, Kind>
     ensures { outcome result ≡ negated scalar x }
 {
@@ -19,7 +19,7 @@ pub fn negated(scalar: Scalar, x: i128) -> Result<i128, Kind>
 
 /// 1 where the number `x` of the type `scalar` is 0, else 0 ([expr.unary.op]). `Mixed` where `x` isn't
 /// of the type.
-#[inline]
+#[inline(always)]
 pub fn logical_not(scalar: Scalar, x: i128) -> Result<i128, Kind>
     ensures { outcome result ≡ logical_not scalar x }
 {
@@ -31,7 +31,7 @@ pub fn logical_not(scalar: Scalar, x: i128) -> Result<i128, Kind>
 
 /// `x` plus `y`, both of the type `scalar` ([expr.add]): modulo 2 ^ n where the type is unsigned.
 /// `Overflow` where the sum isn't of the type, `Mixed` where an operand isn't.
-#[inline]
+#[inline(always)]
 pub fn sum(scalar: Scalar, x: i128, y: i128) -> Result<i128, Kind>
     ensures { outcome result ≡ sum scalar x y }
 {
@@ -43,7 +43,7 @@ pub fn sum(scalar: Scalar, x: i128, y: i128) -> Result<i128, Kind>
 
 /// `x` less `y`, both of the type `scalar` ([expr.add]): modulo 2 ^ n where the type is unsigned.
 /// `Overflow` where the difference isn't of the type, `Mixed` where an operand isn't.
-#[inline]
+#[inline(always)]
 pub fn difference(scalar: Scalar, x: i128, y: i128) -> Result<i128, Kind>
     ensures { outcome result ≡ difference scalar x y }
 {
@@ -55,7 +55,7 @@ pub fn difference(scalar: Scalar, x: i128, y: i128) -> Result<i128, Kind>
 
 /// `x` times `y`, both of the type `scalar` ([expr.mul]): modulo 2 ^ n where the type is unsigned.
 /// `Overflow` where the product isn't of the type, `Mixed` where an operand isn't.
-#[inline]
+#[inline(always)]
 pub fn product(scalar: Scalar, x: i128, y: i128) -> Result<i128, Kind>
     ensures { outcome result ≡ product scalar x y }
 {

@@ -5,7 +5,7 @@ use cx_code::Value;
 
 /// Whether two values are equal ([expr.eq]): numbers by their value, pointers by the object and the
 /// leaf. `None` where they can't be compared: a number with a pointer.
-#[inline]
+#[inline(always)]
 pub fn equal_values(a: Value, b: Value) -> Option<bool>
     ensures { result ≡ equal_values a b }
 {

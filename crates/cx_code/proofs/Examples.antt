@@ -1,14 +1,12 @@
 -- Runs of small images, step by step as the definition computes them.
-use Rattle.std.proofs.Common.{◌≡◌, ℕ, List, [], ◌∷◌, Option, Some, None, pos, true, false, refl}
+use Rattle.std.proofs.Common.{◌≡◌, ℕ, List, [], ◌∷◌, pos, true, false, refl}
 use Rattle.cx_code.specs.declared.code.Instruction.{Instruction}
 use Rattle.cx_code.specs.declared.code.Region.{Region}
 use Rattle.cx_code.specs.declared.image.Image.{Image}
 use Rattle.cx_code.specs.declared.image.Function.{Function}
 use Rattle.cx_code.specs.declared.image.TypeEntry.{TypeEntry}
-use Rattle.cx_code.specs.declared.run.Event.{Event}
 use Rattle.cx_code.specs.declared.run.Event.TheVariants as events
 use Rattle.cx_code.specs.declared.run.Ending.TheVariants as endings
-use Rattle.cx_code.specs.declared.run.Run.{Run}
 use Rattle.cx_code.specs.Operation.{operation_of}
 use Rattle.cx_code.specs.State.{initial}
 use Rattle.cx_code.specs.Unwind.{unwound}

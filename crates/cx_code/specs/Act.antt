@@ -1,15 +1,13 @@
 -- This defines what one instruction does to a state of the machine, a case for each code in the order of the codes; the instruction set is this project's own.
-use Rattle.std.specs.Prelude.{ℕ, ◌+◌, ◌-◌, ◌*◌, ◌==◌, List, [], ◌∷◌, ◌++◌, map, length, take, drop, reverse, count_by, Option, Some, None, is_some, ℤ, pos, negsuc, Bool, true, false, not, ◌&&◌, int_lt, int_le, nat_lt, nat_le, unsigned_abs, if◌then◌else◌, slice_get, slice_set}
+use Rattle.std.specs.Prelude.{ℕ, ◌+◌, ◌-◌, ◌==◌, List, [], ◌∷◌, ◌++◌, length, take, drop, reverse, count_by, Option, Some, None, ℤ, pos, negsuc, Bool, true, false, not, ◌&&◌, int_lt, int_le, nat_le, unsigned_abs, if◌then◌else◌, slice_get, slice_set}
 use Rattle.std.specs.Int.{int_rem_euclid}
 use Rattle.std.specs.List.{list_any}
 use Rattle.cx_code.specs.declared.image.Image.{Image}
 use Rattle.cx_code.specs.declared.image.Function.{Function}
 use Rattle.cx_code.specs.declared.image.TypeEntry.{TypeEntry}
 use Rattle.cx_code.specs.declared.image.Assertion.{Assertion}
-use Rattle.cx_code.specs.declared.image.AssertionKind.{AssertionKind}
 use Rattle.cx_code.specs.declared.operation.Operation.{Operation}
 use Rattle.cx_code.specs.declared.operation.Operation.TheVariants as does
-use Rattle.cx_code.specs.declared.operation.Scalar.{Scalar}
 use Rattle.cx_code.specs.declared.operation.ViolationField.{ViolationField}
 use Rattle.cx_code.specs.declared.operation.ViolationField.TheVariants as fields
 use Rattle.cx_code.specs.declared.memory.Loaded.{Loaded}
@@ -29,8 +27,8 @@ use Rattle.cx_code.specs.declared.violation.Semantic.{Semantic}
 use Rattle.cx_code.specs.declared.violation.Semantic.TheVariants as semantics
 use Rattle.cx_code.specs.Spelling.{kind_code}
 use Rattle.cx_code.specs.Arithmetic.{is_zero, truth, is_int, value_as, Computed, Gives, Fails, negated, logical_not, complement, sum, difference, product, quotient, remainder, shifted_left, shifted_right, both_bits, either_bits, different_bits, equal_values}
-use Rattle.cx_code.specs.Store.{Store, Leaves, made, ended, leaf_at, loaded, stored, stored_leaf}
-use Rattle.cx_code.specs.State.{State, Frame, Exception, Violated, Control, Runs, Unwinds, frame_of}
+use Rattle.cx_code.specs.Store.{Store, made, ended, leaf_at, loaded, stored, stored_leaf}
+use Rattle.cx_code.specs.State.{State, Frame, Exception, Violated, Unwinds, frame_of}
 
 -- what a step comes to; it appends at most one event
 pub data Step : Type 0 where

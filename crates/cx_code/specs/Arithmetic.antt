@@ -1,5 +1,5 @@
 -- This defines arithmetic, conversion and comparison of the machine's values, by [expr.unary.op], [expr.mul], [expr.add], [expr.shift], [expr.bit.and], [expr.xor], [expr.or], [expr.rel], [expr.eq] and [conv.integral], each in one type.
-use Rattle.std.specs.Prelude.{ℕ, ◌^◌, ◌==◌, ℤ, pos, negsuc, ◌+ℤ◌, ◌-ℤ◌, ◌*ℤ◌, neg_ℤ, Bool, true, false, not, ◌&&◌, ◌||◌, int_lt, int_le, int_div, int_rem, unsigned_abs, if◌then◌else◌, Option, Some, None}
+use Rattle.std.specs.Prelude.{ℕ, ◌^◌, ◌==◌, ℤ, pos, negsuc, ◌+ℤ◌, ◌-ℤ◌, ◌*ℤ◌, neg_ℤ, Bool, true, false, not, ◌&&◌, int_lt, int_le, int_div, int_rem, unsigned_abs, if◌then◌else◌, Option, Some, None}
 use Rattle.std.specs.Int.{Width, w8, w32, w64, w128, cast_signed, int_rem_euclid, int_shr, int_bit_and, int_bit_or, int_bit_xor}
 use Rattle.std.specs.Ordering.{int_eq}
 use Rattle.cx_code.specs.declared.operation.Scalar.{Scalar}

@@ -1,7 +1,6 @@
 -- This defines the rules V1 to V7 of a valid image, which say that a run of it lacks no operand, index or place; they are this project's own.
-use Rattle.std.specs.Prelude.{◌≡◌, ◌≢◌, ◌⊎◌, ℕ, ◌+◌, ◌-◌, ◌<◌, ◌≤◌, max, min, List, length, Option, Some, None, IsTrue, IsFalse, IfSome, slice_get, ⊤}
+use Rattle.std.specs.Prelude.{◌≡◌, ◌⊎◌, ℕ, ◌+◌, ◌-◌, ◌<◌, ◌≤◌, max, min, List, length, Option, Some, None, IsTrue, IsFalse, IfSome, slice_get, ⊤}
 use Rattle.std.specs.List.{All}
-use Rattle.cx_code.specs.declared.code.Instruction.{Instruction}
 use Rattle.cx_code.specs.declared.code.Region.{Region}
 use Rattle.cx_code.specs.declared.image.Image.{Image}
 use Rattle.cx_code.specs.declared.image.Function.{Function}

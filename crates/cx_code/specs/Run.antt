@@ -1,5 +1,5 @@
 -- This defines the steps of the machine and its runs of an image on an input; both are this project's own.
-use Rattle.std.specs.Prelude.{ℕ, zero, suc, ◌+◌, List, [], ◌∷◌, ◌++◌, Option, Some, None, slice_get}
+use Rattle.std.specs.Prelude.{ℕ, zero, suc, ◌+◌, List, [], ◌++◌, Option, Some, None, slice_get}
 use Rattle.std.specs.Option.{option_and_then, option_to_list}
 use Rattle.cx_code.specs.declared.code.Instruction.{Instruction}
 use Rattle.cx_code.specs.declared.image.Image.{Image}

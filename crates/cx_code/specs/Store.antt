@@ -1,5 +1,5 @@
 -- This defines what a memory holds and what its calls do with it: a finite map from the numbers of the live objects to their leaves; it is this project's own.
-use Rattle.std.specs.Prelude.{ℕ, ◌+◌, ◌==◌, if◌then◌else◌, List, [], ◌∷◌, Option, Some, None, Bool, true, false, length, nat_lt, slice_get, slice_set, replicate}
+use Rattle.std.specs.Prelude.{ℕ, ◌+◌, ◌==◌, if◌then◌else◌, List, Option, Some, None, length, nat_lt, slice_get, slice_set, replicate}
 use Rattle.cx_code.specs.declared.run.Value.{Value}
 use Rattle.cx_code.specs.declared.memory.Loaded.{Loaded}
 use Rattle.cx_code.specs.declared.memory.Loaded.TheVariants as gives

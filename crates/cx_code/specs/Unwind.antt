@@ -1,6 +1,5 @@
 -- This defines how an exception is unwound through the regions of the frames, one move at a time; the tables are this project's own, and stand for [except.ctor] and [except.handle].
-use Rattle.std.specs.Prelude.{ℕ, ◌+◌, ◌-◌, ◌==◌, ◌&&◌, ◌||◌, List, [], ◌∷◌, length, drop, Option, Some, None, Bool, nat_lt, nat_le, if◌then◌else◌, slice_get, position}
-use Rattle.std.specs.Option.{option_map, option_and_then}
+use Rattle.std.specs.Prelude.{ℕ, ◌+◌, ◌-◌, ◌==◌, ◌&&◌, ◌||◌, List, [], ◌∷◌, length, drop, Option, Some, None, Bool, nat_lt, nat_le, if◌then◌else◌, slice_get}
 use Rattle.cx_code.specs.declared.code.Region.{Region}
 use Rattle.cx_code.specs.declared.image.Image.{Image}
 use Rattle.cx_code.specs.declared.image.Function.{Function}

@@ -1,9 +1,9 @@
 -- Lists that contracts see with the last item first.
 use Rattle.std.proofs.Common.{◌≡◌, ℕ, ◌+◌, ◌-◌, ◌≤◌, replicate, append_assoc, Bool, true, false, ◌||◌, List, [], ◌∷◌, ◌++◌, length, take, drop, reverse, refl, sym, ap, ◌∙◌, arith}
 use Rattle.std.specs.List.{list_any}
-use Rattle.std.proofs.lemmas.List.{reverse-append, reverse-reverse, length-reverse, length-drop, take-append-drop, drop-append-le, replicate-append-replicate}
+use Rattle.std.proofs.lemmas.List.{reverse-append, reverse-reverse, length-reverse, length-drop, length-take-le, take-take, drop-take, take-append-drop, drop-append-le, replicate-append-replicate}
 use Rattle.std.proofs.lemmas.List.Folds.{list_any-append}
-use Rattle.std.proofs.Math.Seq.{drop-length, take-length}
+use Rattle.std.proofs.Math.Seq.{drop-length}
 
 or_swap : (a b : Bool) → (a || (b || false)) ≡ (b || a)
 or_swap true true = refl
@@ -28,22 +28,32 @@ drop-reverse n xs =
     let size : length (reverse (drop n xs)) ≡ length xs - n = length-reverse (drop n xs) ∙ length-drop n xs in
     ap (drop (length xs - n)) whole ∙ drop_front (length xs - n) (reverse (drop n xs)) (reverse (take n xs)) size
 
+-- the lowest of the first items, so many
+pub low_of : {X : Type 0} (depth top : ℕ) (xs : List X) → depth ≤ top → reverse (take depth xs) ≡ drop (length (reverse (take top xs)) - depth) (reverse (take top xs))
+low_of depth top xs le =
+    let front = take top xs in
+    sym (ap (λ n. drop (n - depth) (reverse front)) (length-reverse front) ∙ drop-reverse depth front ∙ ap reverse (take-take depth top xs le))
+
 -- the last items, so many, in their own order
-pub last-reverse : {X : Type 0} (n : ℕ) (xs : List X) → n ≤ length xs → drop (length xs - n) xs ≡ reverse (take n (reverse xs))
+last-reverse : {X : Type 0} (n : ℕ) (xs : List X) → n ≤ length xs → drop (length xs - n) xs ≡ reverse (take n (reverse xs))
 last-reverse n xs le =
     let e = drop-reverse n (reverse xs) in
     rw (reverse-reverse, length-reverse) at e
 
-pub last_from : {X : Type 0} (n start : ℕ) (xs ys : List X) → ys ≡ xs → start ≡ length xs - n → n ≤ length xs
-    → take (length ys - start) (drop start ys) ≡ reverse (take n (reverse xs))
-last_from {X} n start xs ys same is le =
-    let size : length ys - start ≡ length (drop start ys) = sym (length-drop start ys) in
-    ap (λ k. take k (drop start ys)) size ∙ take-length (drop start ys) ∙ ap (drop start) same ∙ ap (λ k. drop k xs) is ∙ last-reverse n xs le
+-- the last of the first items, so many, in their own order
+pub last_of : {X : Type 0} (n top : ℕ) (xs ys : List X) → ys ≡ xs → top ≤ length xs → n ≤ top → take (top - (top - n)) (drop (top - n) ys) ≡ reverse (take n (reverse (take top xs)))
+last_of {X} n top xs ys same within le =
+    let size : length (take top xs) ≡ top = length-take-le top xs within in
+    let whole : (top - n) + (top - (top - n)) ≡ top = omega arith in
+    let here : take (top - (top - n)) (drop (top - n) xs) ≡ drop (top - n) (take top xs) = sym (drop-take (top - n) (top - (top - n)) xs) ∙ ap (λ k. drop (top - n) (take k xs)) whole in
+    ap (λ (l : List X). take (top - (top - n)) (drop (top - n) l)) same ∙ here ∙ ap (λ k. drop (k - n) (take top xs)) (sym size) ∙ last-reverse n (take top xs) (omega (arith, size, le))
 
-pub rest_from : {X : Type 0} (n start : ℕ) (xs : List X) → start ≡ length xs - n → n ≤ length xs → reverse (take start xs) ≡ drop n (reverse xs)
-rest_from n start xs is le =
-    let e : length xs - start ≡ n = omega arith in
-    sym (drop-reverse start xs) ∙ ap (λ k. drop k (reverse xs)) e
+-- the first items but for the last, so many
+pub rest_of : {X : Type 0} (n top : ℕ) (xs : List X) → top ≤ length xs → n ≤ top → reverse (take (top - n) xs) ≡ drop n (reverse (take top xs))
+rest_of n top xs within le =
+    let size : length (take top xs) ≡ top = length-take-le top xs within in
+    let e : length (take top xs) - (top - n) ≡ n = omega (arith, size, le) in
+    sym (drop-reverse (top - n) (take top xs) ∙ ap reverse (take-take (top - n) top xs (omega arith))) ∙ ap (λ k. drop k (reverse (take top xs))) e
 
 -- one more of the same after a list
 pub replicate_more : {X : Type 0} (front next : List X) (x : X) (n i : ℕ) → n ≤ i → next ≡ (front ++ replicate (i - n) x) ++ x ∷ []

@@ -1,5 +1,8 @@
-ghost use Rattle.std.specs.Prelude.{◌≡◌, ◌<◌, ◌≤◌, ◌^◌, length, slice_get, option_copied, Some, IfSome, map};
+ghost use Rattle.std.specs.Prelude.{◌≡◌, ◌+◌, ◌<◌, ◌≤◌, ◌^◌, length, slice_get, option_copied, Some, IfSome, map};
+ghost use Rattle.cx_includes.specs.Place.{spot_at};
 
+use crate::part::Spot;
+use crate::reached::Reached;
 use cx_outside::{Items, Text};
 use cx_syntax::Token;
 
@@ -88,5 +91,15 @@ impl Assembled {
         ensures { IfSome (slice_get self.now.files file) (λ source. result.now ≡ source.text) }
     {
         self.files.items()[file as usize].text.bytes()
+    }
+
+    /// The place behind the last byte of a file. `file` is below the number of files. Takes no memory.
+    pub fn end_spot(&self, file: u32) -> Spot
+        requires file { file < length self.now.files }
+        requires short { IfSome (slice_get self.now.files file) (λ source. length source.text + 2 < 2 ^ 32) }
+        ensures { IfSome (slice_get self.now.files file) (λ source. result ≡ spot_at source.text (length source.text)) }
+    {
+        let text = self.file_text(file);
+        Reached::START.passed(text, 0, text.len()).spot()
     }
 }

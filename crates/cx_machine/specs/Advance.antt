@@ -9,16 +9,12 @@ use Rattle.cx_code.specs.declared.run.Cause.TheVariants as causes
 use Rattle.cx_code.specs.declared.run.Ending.{Ending}
 use Rattle.cx_code.specs.declared.run.Ending.TheVariants.{Stopped}
 use Rattle.cx_code.specs.declared.run.Event.{Event}
-use Rattle.cx_code.specs.declared.run.Run.{Run}
 use Rattle.cx_code.specs.State.{State}
 use Rattle.cx_code.specs.Act.{Step, Goes, Ends}
 use Rattle.cx_code.specs.Run.{step, machine}
 use Rattle.cx_code.specs.Output.{written_out}
 use Rattle.cx_frame.specs.Made.{IsOwn}
-use Rattle.cx_frame.specs.Stores.{Grows}
 use Rattle.cx_machine.specs.declared.report.Report.{Report}
-use Rattle.cx_machine.specs.declared.state.Machine.{Machine}
-use Rattle.cx_machine.specs.States.{Keeps}
 use Rattle.cx_machine.specs.Outcome.{BeginsWith, lines_of}
 
 abbrev pub event_of : Step → Option Event

@@ -51,6 +51,7 @@ impl Machine {
     }
 
     /// Does what an instruction says.
+    #[inline(always)]
     pub fn act<M: Memory>(
         &mut self,
         alloc: Global,

@@ -27,6 +27,7 @@ const DEPTH: u32 = 4096;
 impl Machine {
     /// Calls a function: its frame comes on top, and the last operands, so many, are the arguments. The event is what the
     /// instruction appends.
+    #[inline(always)]
     pub fn enter(
         &mut self,
         alloc: Global,
@@ -45,7 +46,7 @@ impl Machine {
         ensures thrown { self.new.thrown ≡ self.old.thrown }
     {
         let function = function_at(image, index);
-        if self.is_too_deep(image, function) {
+        if self.is_too_deep(function) {
             return Err(Stop::Ended(Ending::TooDeep));
         }
         let operands = &mut self.frame.operands;
@@ -57,11 +58,12 @@ impl Machine {
             slots,
             pending: Exceptions::new(alloc),
         };
-        self.cover(image, callee, function.counted)?;
+        self.cover(callee, function.counted)?;
         Ok(event)
     }
 
     /// Calls a function that takes one argument.
+    #[inline(always)]
     pub fn enter_with(
         &mut self,
         alloc: Global,
@@ -83,26 +85,23 @@ impl Machine {
     }
 
     /// Whether a call of a function is one too many.
-    fn is_too_deep(&self, image: &Image, function: &Function) -> bool
-        requires { IsCounted image.now self.now }
-        ensures value { (store : Store) → result ≡ is_too_deep image.now (state_of self.now store) function.now }
+    #[inline(always)]
+    fn is_too_deep(&self, function: &Function) -> bool
+        ensures value { (image : Image) (store : Store) → IsCounted image self.now → result ≡ is_too_deep image (state_of self.now store) function.now }
         ensures few { OnFalse result (function.now.counted ≡ true → self.now.counted < 4096) }
     {
-        let _ = image;
         function.counted && self.counted >= DEPTH
     }
 
     /// A frame comes on top, of a function that counts for the depth or doesn't.
-    fn cover(&mut self, image: &Image, callee: Frame, is_counted: bool) -> Result<(), Stop>
-        requires its { is_counted ≡ counts (slice_get image.now.functions callee.function) }
-        requires counted { IsCounted image.now self.old }
+    #[inline(always)]
+    fn cover(&mut self, callee: Frame, is_counted: bool) -> Result<(), Stop>
         requires few { is_counted ≡ true → self.old.counted < 4096 }
         ensures ok { OnOk result (self.new ≡ record self.old { frame = callee; below = frame_in self.old.frame ∷ self.old.below; counted = self.new.counted }) }
         ensures err { (made : _) → IfErr result (λ stop. IsStop stop made) }
-        ensures counted { OnOk result (IsCounted image.now self.new) }
+        ensures counted { (image : Image) → is_counted ≡ counts (slice_get image.functions callee.function) → IsCounted image self.old → OnOk result (IsCounted image self.new) }
         ensures thrown { self.new.thrown ≡ self.old.thrown }
     {
-        let _ = image;
         let caller = mem::replace(&mut self.frame, callee);
         self.below.push(caller)?;
         if is_counted {
@@ -112,6 +111,7 @@ impl Machine {
     }
 
     /// Leaves the last frame for the one below it. The answer is false, and nothing is changed, where there is none.
+    #[inline(always)]
     pub fn uncover(&mut self, image: &Image) -> bool
         requires its_function { self.old.frame.function < length image.now.functions }
         requires counted { IsCounted image.now self.old }
@@ -133,6 +133,7 @@ impl Machine {
     }
 
     /// Leaves the last frame with a result or without one. In the first frame the result is the program's.
+    #[inline(always)]
     fn leave(&mut self, image: &Image, value: Option<Value>) -> Acted
         requires its_function { self.old.frame.function < length image.now.functions }
         requires counted { IsCounted image.now self.old }
@@ -153,6 +154,7 @@ impl Machine {
     }
 
     /// Calls a function with so many arguments.
+    #[inline(always)]
     pub fn call(&mut self, alloc: Global, image: &Image, function: u32, count: u32) -> Acted
         requires within { function < length image.now.functions }
         requires enough { count ≤ length self.old.frame.operands }
@@ -166,6 +168,7 @@ impl Machine {
     }
 
     /// Takes the result, where there is one, and leaves the function.
+    #[inline(always)]
     pub fn give_back(&mut self, image: &Image) -> Acted
         requires its_function { self.old.frame.function < length image.now.functions }
         requires counted { IsCounted image.now self.old }
@@ -185,6 +188,7 @@ impl Machine {
 }
 
 /// How the program ends that has this value.
+#[inline(always)]
 fn ending_of(value: Option<Value>) -> Ending
     ensures ends { Ends result None ≡ returned value }
     ensures own { IsOwn result }
@@ -199,6 +203,7 @@ fn ending_of(value: Option<Value>) -> Ending
 }
 
 /// The function of this index.
+#[inline(always)]
 pub fn function_at(image: &Image, index: u32) -> &Function
     requires { index < length image.now.functions }
     ensures { slice_get image.now.functions index ≡ Some result.now }

@@ -19,6 +19,7 @@ use std::alloc::Global;
 // Codes 49 to 53.
 impl Machine {
     /// Takes the address of an exception object, and begins to unwind it.
+    #[inline(always)]
     pub fn throw(&mut self, of: u32) -> Acted
         requires some { 1 ≤ length self.old.frame.operands }
         requires few { self.old.thrown < 2 ^ 63 }
@@ -42,6 +43,7 @@ impl Machine {
     }
 
     /// The innermost exception that is held is thrown again.
+    #[inline(always)]
     pub fn rethrow(&mut self) -> Acted
         ensures ok { (image : Image) (store : Store) → IfOk result (λ event. IsMade (act image does.Rethrow (state_of self.old store)) (state_of self.new store) event) }
         ensures err { (image : Image) (store : Store) → IfErr result (λ stop. IsStop stop (act image does.Rethrow (state_of self.old store))) }
@@ -56,6 +58,7 @@ impl Machine {
     }
 
     /// Gives the address of the innermost exception that is held.
+    #[inline(always)]
     pub fn give_held(&mut self) -> Acted
         requires room { self.old.frame.place + 1 < 2 ^ 32 }
         ensures ok { (image : Image) (store : Store) → IfOk result (λ event. IsMade (act image does.Held (state_of self.old store)) (state_of self.new store) event) }
@@ -70,6 +73,7 @@ impl Machine {
     }
 
     /// The last pending exception is unwound again.
+    #[inline(always)]
     pub fn resume(&mut self) -> Acted
         requires pending { self.old.frame.pending ≢ [] }
         ensures ok { (image : Image) (store : Store) → IfOk result (λ event. IsMade (act image does.Resume (state_of self.old store)) (state_of self.new store) event) }
@@ -83,6 +87,7 @@ impl Machine {
     }
 
     /// Gives up the innermost exception that is held. Where it is held no more, and isn't pending, its type's dropper is called.
+    #[inline(always)]
     pub fn release(&mut self, alloc: Global, image: &Image) -> Acted
         requires room { self.old.frame.place + 1 < 2 ^ 32 }
         requires counted { IsCounted image.now self.old }

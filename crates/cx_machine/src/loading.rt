@@ -4,12 +4,12 @@ ghost use Rattle.std.specs.Option.{option_and_then};
 ghost use Rattle.cx_code.specs.declared.image.Function.{Function as Code};
 ghost use Rattle.cx_code.specs.Run.{code_of};
 ghost use Rattle.cx_code.specs.Operation.{operation_of};
-ghost use Rattle.cx_code.specs.Rules.{IsValid};
+ghost use Rattle.cx_code.specs.Rules.{IsValid, IsNested};
 ghost use Rattle.cx_machine.specs.Loading.{known_of, meaning_of, IsLoaded};
 
 use cx_code::{Function, Image, Instruction, Operation, Region};
 use cx_outside::NoMemory;
-use cx_unwind::{Table, build};
+use cx_unwind::{BuildFault, Table, build};
 use std::alloc::Global;
 
 /// What is found out of a function before the first step.
@@ -41,6 +41,7 @@ pub fn load(alloc: Global, image: &Image) -> Result<Program, NoMemory>
 }
 
 /// What was found out of the function of this index.
+#[inline(always)]
 pub fn routine_at<'a>(image: &Image, program: &'a Program, index: u32) -> &'a Routine
     requires loaded { IsLoaded image.now program.now }
     requires within { index < length image.now.functions }
@@ -65,6 +66,7 @@ pub fn operation_at(image: &Image, program: &Program, function: u32, place: u32)
 fn routine_of(alloc: Global, function: &Function) -> Result<Routine, NoMemory>
     requires in_range { All (λ i. IsSome (operation_of i)) function.now.code }
     requires few { length function.now.regions < 2 ^ 32 }
+    requires nested { IsNested function.now.regions }
     ensures { IfOk result (λ routine. known_of routine ≡ meaning_of function.now) }
 {
     let operations = decoded(alloc, function.code.items())?;
@@ -77,12 +79,14 @@ fn routine_of(alloc: Global, function: &Function) -> Result<Routine, NoMemory>
 
 /// The table of some regions. Those of a valid image are nested, so that memory is all that can be wanting.
 fn table_of(alloc: Global, regions: &[Region]) -> Result<Table, NoMemory>
-    requires { length regions.now < 2 ^ 32 }
+    requires few { length regions.now < 2 ^ 32 }
+    requires nested { IsNested regions.now }
     ensures { IfOk result (λ table. table ≡ regions.now) }
 {
     match build(alloc, regions) {
         Ok(table) => Ok(table),
-        Err(_) => Err(NoMemory),
+        Err(BuildFault::OutOfMemory) => Err(NoMemory),
+        Err(BuildFault::Crossing(_)) => unreachable!(),
     }
 }
 

@@ -32,6 +32,7 @@ impl Report {
     }
 
     /// Notes an event, and writes the default handler's line where the event is its.
+    #[inline(always)]
     pub fn note<E: Sink>(
         &mut self,
         alloc: Global,
@@ -52,6 +53,7 @@ impl Report {
     }
 
     /// Keeps the byte of an event Out.
+    #[inline(always)]
     fn put(&mut self, event: Event) -> Result<(), NoMemory>
         ensures out { OnOk result (self.new.out ≡ self.old.out ++ written_out_at event) }
         ensures journal { self.new.journal ≡ self.old.journal }
@@ -64,6 +66,7 @@ impl Report {
 }
 
 /// Writes the default handler's line, where the image has no handler of its own and the event is of one.
+#[inline(always)]
 fn write_default<E: Sink>(
     alloc: Global,
     image: &Image,
@@ -81,6 +84,8 @@ fn write_default<E: Sink>(
     }
 }
 
+#[cold]
+#[inline(never)]
 fn write_line<E: Sink>(alloc: Global, image: &Image, event: Event, err: &mut E) -> Result<(), Cause>
     ensures ok { OnOk result (Appends (E.taken err.old) (E.taken err.new) (written_at image.now event)) }
     ensures cause { IfErr result (λ cause. IsRunCause cause (Rose (E.faults err.old) (E.faults err.new))) }

@@ -28,6 +28,7 @@ pub struct Finish {
 }
 
 /// Takes one step, and tells what it did. Its ending is the answer, if it has one.
+#[inline(always)]
 fn advance<M: Memory, E: Sink>(
     alloc: Global,
     image: &Image,

@@ -2,6 +2,7 @@ ghost use Rattle.std.specs.Prelude.{◌≡◌, ◌++◌, [], ◌∷◌, OnOk, On
 ghost use Rattle.std.specs.List.{list_any};
 ghost use Rattle.cx_code.specs.Act.{is_pending};
 ghost use Rattle.cx_frame.specs.Frames.{frame_in};
+ghost use Rattle.cx_machine.specs.Troubled.{is_troubled};
 
 use cx_code::{DetectionMode, Semantic};
 use cx_frame::{Exception, Exceptions, Frame};
@@ -54,17 +55,22 @@ impl Model for Violated {
 #[derive(Debug, Drop)]
 pub struct Frames {
     frames: Vec<Frame>,
+    /// How many of them have an exception pending. Mostly none has, and then none is looked at.
+    troubled: usize,
 }
 
 impl Model for Frames {
-    ghost use Rattle.std.specs.Prelude.{List, map, reverse};
+    ghost use Rattle.std.specs.Prelude.{◌≡◌, List, map, reverse, count_by};
     ghost use Rattle.cx_code.specs.State.{Frame as Waiting};
 
     ghost Value = { List Waiting };
 
     ghost use Rattle.cx_frame.specs.Frames.{frame_in};
+    ghost use Rattle.cx_machine.specs.Troubled.{is_troubled};
 
     ghost view = { λ it. map frame_in (reverse it.frames.items) };
+
+    ghost invariant = { λ it. it.troubled ≡ count_by is_troubled it.frames.items };
 }
 
 impl Frames {
@@ -73,14 +79,19 @@ impl Frames {
     {
         Frames {
             frames: Vec::new(alloc),
+            troubled: 0,
         }
     }
 
     pub fn push(&mut self, frame: Frame) -> Result<(), NoMemory>
         ensures { OnOk result (self.new ≡ frame_in frame ∷ self.old) }
     {
+        let troubled = usize::from(is_troubled(&frame));
         match self.frames.push(frame) {
-            Ok(()) => Ok(()),
+            Ok(()) => {
+                self.troubled += troubled;
+                Ok(())
+            }
             Err(_) => Err(NoMemory),
         }
     }
@@ -88,15 +99,27 @@ impl Frames {
     pub fn pop(&mut self) -> Option<Frame>
         ensures { MatchOption result ((self.old ≡ []) × (self.new ≡ [])) (λ frame. self.old ≡ frame_in frame ∷ self.new) }
     {
-        self.frames.pop()
+        let frame = self.frames.pop()?;
+        self.troubled -= usize::from(is_troubled(&frame));
+        Some(frame)
     }
 
     /// Whether an exception is pending in one of them.
     pub fn has_pending(&self, exception: Exception) -> bool
         ensures { result ≡ list_any (is_pending exception) self.now }
     {
+        if self.troubled == 0 {
+            return false;
+        }
         is_pending(exception, &self.frames)
     }
+}
+
+/// Whether a frame has an exception pending.
+fn is_troubled(frame: &Frame) -> bool
+    ensures { result ≡ is_troubled frame.now }
+{
+    frame.pending.last().is_some()
 }
 
 fn is_pending(exception: Exception, frames: &[Frame]) -> bool
@@ -133,6 +156,7 @@ impl Input {
     }
 
     /// The next byte, which is taken, if one is left.
+    #[inline(always)]
     pub fn take(&mut self) -> Option<u8>
         ensures { MatchOption result ((self.old ≡ []) × (self.new ≡ [])) (λ byte. self.old ≡ byte ∷ self.new) }
     {

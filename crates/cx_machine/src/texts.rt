@@ -14,6 +14,7 @@ use cx_frame::{Acted, Stop, take_number};
 // Codes 42 and 43.
 impl Machine {
     /// Reads a byte, and gives it, or -1 at the end.
+    #[inline(always)]
     pub fn read(&mut self) -> Acted
         requires room { self.old.frame.place + 1 < 2 ^ 32 }
         ensures ok { (image : Image) (store : Store) → IfOk result (λ event. IsMade (act image does.In (state_of self.old store)) (state_of self.new store) event) }
@@ -33,6 +34,7 @@ impl Machine {
     }
 
     /// Takes a text and a place, and gives the byte there, or -1 behind the end.
+    #[inline(always)]
     pub fn text_at(&mut self, image: &Image) -> Acted
         requires room { self.old.frame.place + 1 < 2 ^ 32 }
         requires some { 2 ≤ length self.old.frame.operands }
@@ -56,6 +58,7 @@ impl Machine {
     }
 
     /// Takes a place, and gives the byte there of this text, or -1 behind the end.
+    #[inline(always)]
     pub fn text_of(&mut self, image: &Image, text: u32) -> Acted
         requires room { self.old.frame.place + 1 < 2 ^ 32 }
         requires some { 1 ≤ length self.old.frame.operands }

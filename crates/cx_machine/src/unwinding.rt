@@ -16,6 +16,7 @@ use cx_unwind::find;
 impl Machine {
     /// One move of an exception that is unwound: a region is tried, or the last frame is left.
     #[tactic(auto, unfolding(cx_code::specs::Unwind::unwound))]
+    #[inline(always)]
     pub fn unwind(
         &mut self,
         image: &Image,
@@ -40,6 +41,7 @@ impl Machine {
     }
 
     /// A region is tried.
+    #[inline(always)]
     fn try_region(&mut self, exception: Exception, index: u32, region: Region) -> Acted
         ensures ok { (store : Store) → IfOk result (λ event. IsMade (tried (state_of self.old store) exception index region) (state_of self.new store) event) }
         ensures err { (store : Store) → IfErr result (λ stop. IsStop stop (tried (state_of self.old store) exception index region)) }
@@ -61,6 +63,7 @@ impl Machine {
     }
 
     /// The exception waits while the code at the target runs.
+    #[inline(always)]
     fn clean(&mut self, exception: Exception, region: Region) -> Acted
         ensures ok { (store : Store) → IfOk result (λ event. IsMade (cleans (state_of self.old store) exception region) (state_of self.new store) event) }
         ensures err { (made : _) → IfErr result (λ stop. IsStop stop made) }
@@ -74,6 +77,7 @@ impl Machine {
     }
 
     /// The exception is held while the code at the target runs.
+    #[inline(always)]
     fn catch(&mut self, exception: Exception, region: Region, event: Event) -> Acted
         ensures ok { (store : Store) → IfOk result (λ noted. IsMade (catches (state_of self.old store) exception region event) (state_of self.new store) noted) }
         ensures err { (made : _) → IfErr result (λ stop. IsStop stop made) }
@@ -87,6 +91,7 @@ impl Machine {
     }
 
     /// No region is left in the last frame.
+    #[inline(always)]
     fn give_up(&mut self, image: &Image, exception: Exception) -> Acted
         requires its_function { self.old.frame.function < length image.now.functions }
         requires counted { IsCounted image.now self.old }

@@ -22,6 +22,7 @@ use std::alloc::Global;
 // Codes 46 and 47.
 impl Machine {
     /// An assertion is violated: the handler is called with the violation's number. The default handler needs no frame.
+    #[inline(always)]
     pub fn violate(
         &mut self,
         alloc: Global,
@@ -53,6 +54,7 @@ impl Machine {
     }
 
     /// Takes the number of a violation, and gives what a handler asks of it.
+    #[inline(always)]
     pub fn ask(&mut self, image: &Image, field: ViolationField) -> Acted
         requires room { self.old.frame.place + 1 < 2 ^ 32 }
         requires some { 1 ≤ length self.old.frame.operands }

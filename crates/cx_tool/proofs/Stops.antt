@@ -1,6 +1,6 @@
 -- What is answered in place of an image.
 use Rattle.std.proofs.Common.{◌≡◌, ◌⊎◌, ℕ, ◌≤◌, List, length, Option, Some, None, Result, Ok, Err, inl, inr, refl, sym, subst, ◌∙◌, arith}
-use Rattle.std.specs.Prelude.{IfErr}
+use Rattle.std.specs.Prelude.{IfErr, slice_get}
 use Rattle.std.specs.Result.{IsErrAnd}
 use Rattle.cx_outside.specs.Folder.{Folder, WhereTold}
 use Rattle.cx_lexer.specs.declared.fault.LexFault.TheVariants as lexical
@@ -17,7 +17,11 @@ use Rattle.cx_tool.specs.declared.answer.Answer.{Answer}
 use Rattle.cx_tool.specs.declared.answer.Answer.TheVariants as answers
 use Rattle.cx_tool.specs.declared.tree.SourceUnit.{SourceUnit}
 use Rattle.cx_tool.specs.Grammar.{IsSpelling, IsOutside, words_of, most_tokens}
-use Rattle.cx_tool.specs.Faults.{fault_answer, HasFault}
+use Rattle.cx_faults.specs.declared.fault.ListFault.{ListFault}
+use Rattle.cx_faults.specs.declared.fault.ListFault.TheVariants as list_faults
+use Rattle.cx_faults.specs.Faults.{IsFaultless, IsListFault, open_count, place_of}
+use Rattle.cx_faults.proofs.Firsts.{no_fault}
+use Rattle.cx_tool.specs.Faults.{fault_answer, list_fault_answer, HasFault, IsListAnswer}
 use Rattle.cx_tool.specs.Report.{Comes}
 use Rattle.cx_tool.specs.Exec.{HasStopCause, IsStoppedBy, IsWant}
 
@@ -54,12 +58,37 @@ handed_on (Ok v) x P h p = absurd h
 handed_on (Err y) x P h p = subst P (sym h) p
 
 -- a unit that isn't built, or memory is wanted
-pub build_cause : (content : Option Folder) (rose : Type 0) (unit : List ℕ) (list : Assembled) (answer : Answer) → IsListOver content unit list
+pub build_cause : (content : Option Folder) (rose : Type 0) (unit : List ℕ) (list : Assembled) (answer : Answer) → IsListOver content unit list → IsFaultless list
     → (answer ≡ answers.OutOfMemory) ⊎ ((answer ≡ answers.Unbuilt unit) × IsOutside list) → HasStopCause answer content rose unit
-build_cause content rose unit list answer listed cause = elim cause [
+build_cause content rose unit list answer listed fine cause = elim cause [
   | inl e ↦ subst (λ (a : Answer). HasStopCause a content rose unit) (sym e) tt
-  | inr h ↦ subst (λ (a : Answer). HasStopCause a content rose unit) (sym h.0) (refl, record { list = list; listed = listed; outside = h.1 })
+  | inr h ↦ subst (λ (a : Answer). HasStopCause a content rose unit) (sym h.0) (refl, record { list = list; listed = listed; faultless = fine; outside = h.1 })
 ]
+
+-- what a `?` hands on is the answer that is due
+pub stops : {X : Type 0} (wanted : Answer) (r : Result X Answer) (x : Answer) → IsErrAnd r (λ e. e ≡ x) → Comes x wanted → IsStoppedBy wanted r
+stops wanted (Ok v) x h comes = absurd h
+stops wanted (Err y) x h comes = subst (λ (a : Answer). Comes a wanted) (sym h) comes
+
+-- a list without a fault wants memory alone
+pub only_memory : (unit : List ℕ) (list other : Assembled) (answer : Answer) → IsFaultless list → other ≡ list → (answer ≡ answers.OutOfMemory) ⊎ IsListAnswer unit other answer → answer ≡ answers.OutOfMemory
+only_memory unit list other answer fine same cause =
+    elim cause [ inl e ↦ e | inr its ↦ absurd (no_fault other (subst IsFaultless (sym same) fine) its.fault its.is) ]
+
+-- the first fault of a unit's list, or memory is wanted
+pub list_cause : (content : Option Folder) (rose : Type 0) (unit : List ℕ) (list : Assembled) (answer : Answer) → IsListOver content unit list → (answer ≡ answers.OutOfMemory) ⊎ IsListAnswer unit list answer
+    → HasStopCause answer content rose unit
+list_cause content rose unit list answer listed cause =
+    elim cause [ inl e ↦ subst (λ (a : Answer). HasStopCause a content rose unit) (sym e) tt | inr its ↦ by_fault its.fault its.is its.answered ]
+  where
+    by_fault : (fault : ListFault) → IsListFault list fault → answer ≡ list_fault_answer unit list fault → HasStopCause answer content rose unit
+    by_fault fault (IsListFault.opened many) e =
+        let its : IsListAnswer unit list (list_fault_answer unit list (list_faults.OpenTokens (open_count list))) = record { fault = list_faults.OpenTokens (open_count list); is = IsListFault.opened many; answered = refl } in
+        subst (λ (a : Answer). HasStopCause a content rose unit) (sym e) (inr (record { list = list; listed = listed; its = its }))
+    by_fault fault (IsListFault.syntax shallow place is) e =
+        let there = list_faults.Syntax (place_of list (slice_get list.placed place)) in
+        let its : IsListAnswer unit list (list_fault_answer unit list there) = record { fault = there; is = IsListFault.syntax shallow place is; answered = refl } in
+        subst (λ (a : Answer). HasStopCause a content rose unit) (sym e) (refl, inr (record { list = list; listed = listed; its = its }))
 
 -- ---- a file that is missing
 

@@ -1,16 +1,21 @@
--- Which answer each fault of a unit's files, lines and tokens has.
-use Rattle.std.specs.Prelude.{◌≡◌, ℕ, List, Option}
+-- Which answer each fault of a unit has: of its files, lines and tokens, and then of the list that is assembled of them.
+use Rattle.std.specs.Prelude.{◌≡◌, ◌⊎◌, ℕ, List, Option}
 use Rattle.cx_outside.specs.Folder.{Folder}
 use Rattle.cx_outside.specs.declared.limit.Limit.TheVariants as limits
 use Rattle.cx_lexer.specs.declared.fault.LexFault.{LexFault}
 use Rattle.cx_lexer.specs.declared.fault.LexFault.TheVariants as lexical
 use Rattle.cx_includes.specs.declared.assembly.AssembleFault.{AssembleFault}
 use Rattle.cx_includes.specs.declared.assembly.AssembleFault.TheVariants as faults
-use Rattle.cx_includes.specs.Assembled.{HasCause}
+use Rattle.cx_includes.specs.declared.assembled.Assembled.{Assembled}
+use Rattle.cx_includes.specs.Assembled.{HasCause, IsListOver}
+use Rattle.cx_faults.specs.declared.fault.ListFault.{ListFault}
+use Rattle.cx_faults.specs.declared.fault.ListFault.TheVariants as list_faults
+use Rattle.cx_faults.specs.Faults.{IsListFault}
 use Rattle.cx_tool.specs.declared.answer.Answer.{Answer}
 use Rattle.cx_tool.specs.declared.answer.Answer.TheVariants as answers
 use Rattle.cx_tool.specs.declared.answer.Rule.{Rule}
 use Rattle.cx_tool.specs.declared.answer.Rule.TheVariants as rules
+use Rattle.cx_tool.specs.Grammar.{name_of_file}
 
 -- the unit is refused at a place of one of its files
 abbrev pub refused : List ℕ → List ℕ → ℕ → ℕ → Rule → Answer
@@ -41,3 +46,25 @@ pub record HasFault (content : Option Folder) (rose : Type 0) (unit : List ℕ) 
   pub fault : AssembleFault
   pub answered : answer ≡ fault_answer unit fault
   pub cause : HasCause content unit rose fault
+
+-- a fault of an assembled list of the unit of a name
+abbrev pub list_fault_answer : List ℕ → Assembled → ListFault → Answer
+list_fault_answer unit list list_faults.OutOfMemory = answers.OutOfMemory
+list_fault_answer unit list (list_faults.OpenTokens count) = answers.TooMany limits.OpenTokens count
+list_fault_answer unit list (list_faults.Syntax place) = refused unit (name_of_file list place.file) place.line place.column rules.Syntax
+
+-- the answer is that of the list's first fault
+pub record IsListAnswer (unit : List ℕ) (list : Assembled) (answer : Answer) : Type 0 where
+  pub fault : ListFault
+  pub is : IsListFault list fault
+  pub answered : answer ≡ list_fault_answer unit list fault
+
+-- the answer is that of the first fault of the unit's assembled list
+pub record HasListFault (content : Option Folder) (unit : List ℕ) (answer : Answer) : Type 0 where
+  pub list : Assembled
+  pub listed : IsListOver content unit list
+  pub its : IsListAnswer unit list answer
+
+-- the answer is that of the unit's first fault: of its files, lines and tokens, or where it has none of its list
+abbrev pub HasUnitFault : Option Folder → Type 0 → List ℕ → Answer → Type 0
+HasUnitFault content rose unit answer = HasFault content rose unit answer ⊎ HasListFault content unit answer

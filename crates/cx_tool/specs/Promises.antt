@@ -10,6 +10,8 @@ use Rattle.cx_includes.specs.declared.assembled.Assembled.{Assembled}
 use Rattle.cx_includes.specs.declared.assembly.AssembleFault.{AssembleFault}
 use Rattle.cx_includes.specs.Fault.{IsFirstFault}
 use Rattle.cx_includes.specs.Assembled.{IsListOf}
+use Rattle.cx_faults.specs.declared.fault.ListFault.{ListFault}
+use Rattle.cx_faults.specs.Faults.{IsFaultless, IsListFault}
 use Rattle.cx_tool.specs.declared.answer.Answer.TheVariants as answers
 use Rattle.cx_tool.specs.declared.answer.Stream.TheVariants as streams
 use Rattle.cx_tool.specs.declared.answer.Report.{Report}
@@ -17,7 +19,7 @@ use Rattle.cx_tool.specs.declared.answer.Refusal.{Refusal}
 use Rattle.cx_tool.specs.declared.tree.SourceUnit.{SourceUnit}
 use Rattle.cx_tool.specs.Words.{named, NamesUnit, OfNames, HasLongName}
 use Rattle.cx_tool.specs.Grammar.{IsSpelling, IsOutside, words_of, most_tokens}
-use Rattle.cx_tool.specs.Faults.{fault_answer, HasFault}
+use Rattle.cx_tool.specs.Faults.{fault_answer, list_fault_answer, HasFault, HasUnitFault}
 use Rattle.cx_tool.specs.Closing.{closing_text, status_of}
 use Rattle.cx_tool.specs.Report.{not_started, Comes, IsEarly, HasClosingLine, IsRan, HasBegun, IsUnbuilt}
 
@@ -61,6 +63,10 @@ pub record Promises (words : List (List ℕ)) (seen : Seen) (report : Report) : 
   -- want of memory: NoFile, UnitRefused or TooMany.
   pub fault_comes : (unit : List ℕ) (folder : Folder) (fault : AssembleFault) → NamesUnit words unit → seen.files ≡ Some folder → IsFirstFault folder unit fault → FilesHeld seen → ErrHeld seen
       → Comes report.answer (fault_answer unit fault)
+  -- Where they tell a list of the unit that has a first fault, and no call fails, its answer is given, or want of memory:
+  -- TooMany for the tokens that are open at one place, or UnitRefused for the place of a syntax fault.
+  pub list_fault_comes : (unit : List ℕ) (folder : Folder) (list : Assembled) (fault : ListFault) → NamesUnit words unit → seen.files ≡ Some folder → IsListOf folder unit list → IsListFault list fault → FilesHeld seen → ErrHeld seen
+      → Comes report.answer (list_fault_answer unit list fault)
   -- NoFile is answered only with the name of the missing file, the unit's or an included one, where that is the unit's
   -- first fault, or where the files tell nothing and a call failed.
   pub no_file_has_cause : (name : List ℕ) → report.answer ≡ answers.NoFile name → OfNames words (λ image unit. HasFault seen.files (FilesFailed seen) unit (answers.NoFile name))
@@ -68,19 +74,19 @@ pub record Promises (words : List (List ℕ)) (seen : Seen) (report : Report) : 
   pub no_file_is_missing : (name : List ℕ) → report.answer ≡ answers.NoFile name → WhereTold seen.files (λ folder. folder name ≡ None) (FilesFailed seen)
   -- UnitRefused is answered only with the unit's name, and is the refusal of the unit's first fault; where the files tell
   -- nothing, of the first fault over some files.
-  pub unit_refused_has_cause : (refusal : Refusal) → report.answer ≡ answers.UnitRefused refusal → NamesUnit words refusal.unit × HasFault seen.files (FilesFailed seen) refusal.unit (answers.UnitRefused refusal)
+  pub unit_refused_has_cause : (refusal : Refusal) → report.answer ≡ answers.UnitRefused refusal → NamesUnit words refusal.unit × HasUnitFault seen.files (FilesFailed seen) refusal.unit (answers.UnitRefused refusal)
   -- TooMany is answered only with the length of a name in the words, or for the unit's first fault: the bytes of its files,
-  -- or a name in them.
+  -- a name in them, or the tokens that are open at one place.
   pub too_many_has_cause : (limit : Limit) (count : ℕ) → report.answer ≡ answers.TooMany limit count
-      → ((limit ≡ limits.Name) × HasLongName words count) ⊎ OfNames words (λ image unit. HasFault seen.files (FilesFailed seen) unit (answers.TooMany limit count))
-  -- Unbuilt is answered only with the unit's name, where it has an assembled list, which no tree of the language that is
-  -- built so far spells, or which has too many tokens.
+      → ((limit ≡ limits.Name) × HasLongName words count) ⊎ OfNames words (λ image unit. HasUnitFault seen.files (FilesFailed seen) unit (answers.TooMany limit count))
+  -- Unbuilt is answered only with the unit's name, where it has an assembled list without a fault, which no tree of the
+  -- language that is built so far spells, or which has too many tokens.
   pub unbuilt_has_cause : (name : List ℕ) → report.answer ≡ answers.Unbuilt name → NamesUnit words name × IsUnbuilt seen.files name
   -- Where the files tell such a list, and no call fails, Unbuilt is answered, or want of memory.
-  pub unbuilt_comes : (unit : List ℕ) (folder : Folder) (list : Assembled) → NamesUnit words unit → seen.files ≡ Some folder → IsListOf folder unit list → IsOutside list → FilesHeld seen → ErrHeld seen
+  pub unbuilt_comes : (unit : List ℕ) (folder : Folder) (list : Assembled) → NamesUnit words unit → seen.files ≡ Some folder → IsListOf folder unit list → IsFaultless list → IsOutside list → FilesHeld seen → ErrHeld seen
       → Comes report.answer (answers.Unbuilt unit)
-  -- Where they tell a list that isn't so, and no call fails, the unit's program runs, or memory is wanted.
-  pub ran_comes : (unit : List ℕ) (folder : Folder) (list : Assembled) (tree : SourceUnit) → NamesUnit words unit → seen.files ≡ Some folder → IsListOf folder unit list → IsSpelling (words_of list) tree
+  -- Where they tell a list without a fault that isn't so, and no call fails, the unit's program runs, or memory is wanted.
+  pub ran_comes : (unit : List ℕ) (folder : Folder) (list : Assembled) (tree : SourceUnit) → NamesUnit words unit → seen.files ≡ Some folder → IsListOf folder unit list → IsFaultless list → IsSpelling (words_of list) tree
       → length list.placed ≤ most_tokens → FilesHeld seen → ErrHeld seen → Comes report.answer answers.Ran
   -- FileFault is answered only where a call on the files failed.
   pub file_fault_has_cause : report.answer ≡ answers.FileFault → FilesFailed seen

@@ -4,6 +4,7 @@ use Rattle.cx_outside.specs.declared.limit.Limit.TheVariants as limits
 use Rattle.cx_tool.specs.declared.answer.Answer.TheVariants as answers
 use Rattle.cx_code.specs.Violation.{written}
 use Rattle.cx_tool.specs.Closing.{closing_text}
+use Rattle.cx_tool.specs.Faults.{list_fault_answer}
 use Rattle.cx_tool.specs.Report.{HasClosingLine}
 use Rattle.cx_outside.specs.Told.{Appends-then, Rose-earlier, Rose-later}
 use Rattle.cx_tool.proofs.Closed.{same_answer, last_line, still_comes}
@@ -67,10 +68,15 @@ returns-clause-long_name_comes g c =
 
 pub returns-clause-unbuilt_comes : goal.returns-clause-unbuilt_comes
 returns-clause-unbuilt_comes g c =
-    λ unit folder list names told is outside none held.
-    still_comes c.decide-decided.result.answer c.close-answer.result (answers.Unbuilt unit) (Rose (g.E.Sink.faults c.decide-decided.new.err) (g.E.Sink.faults c.close-answer.new.err)) c.close-answer.ensures.closed (λ rose. held (Rose-earlier (g.E.Sink.faults c.args.err.now) (g.E.Sink.faults c.decide-decided.new.err) (g.E.Sink.faults c.close-answer.new.err) c.decide-decided.ensures.later rose)) (c.decide-decided.ensures.unbuilt_comes unit folder list names told is outside none)
+    λ unit folder list names told is fine outside none held.
+    still_comes c.decide-decided.result.answer c.close-answer.result (answers.Unbuilt unit) (Rose (g.E.Sink.faults c.decide-decided.new.err) (g.E.Sink.faults c.close-answer.new.err)) c.close-answer.ensures.closed (λ rose. held (Rose-earlier (g.E.Sink.faults c.args.err.now) (g.E.Sink.faults c.decide-decided.new.err) (g.E.Sink.faults c.close-answer.new.err) c.decide-decided.ensures.later rose)) (c.decide-decided.ensures.unbuilt_comes unit folder list names told is fine outside none)
 
 pub returns-clause-ran_comes : goal.returns-clause-ran_comes
 returns-clause-ran_comes g c =
-    λ unit folder list tree names told is spelled few none held.
-    still_comes c.decide-decided.result.answer c.close-answer.result (answers.Ran) (Rose (g.E.Sink.faults c.decide-decided.new.err) (g.E.Sink.faults c.close-answer.new.err)) c.close-answer.ensures.closed (λ rose. held (Rose-earlier (g.E.Sink.faults c.args.err.now) (g.E.Sink.faults c.decide-decided.new.err) (g.E.Sink.faults c.close-answer.new.err) c.decide-decided.ensures.later rose)) (c.decide-decided.ensures.ran_comes unit folder list tree names told is spelled few none (λ rose. held (Rose-later (g.E.Sink.faults c.args.err.now) (g.E.Sink.faults c.decide-decided.new.err) (g.E.Sink.faults c.close-answer.new.err) c.close-answer.ensures.later rose)))
+    λ unit folder list tree names told is fine spelled few none held.
+    still_comes c.decide-decided.result.answer c.close-answer.result (answers.Ran) (Rose (g.E.Sink.faults c.decide-decided.new.err) (g.E.Sink.faults c.close-answer.new.err)) c.close-answer.ensures.closed (λ rose. held (Rose-earlier (g.E.Sink.faults c.args.err.now) (g.E.Sink.faults c.decide-decided.new.err) (g.E.Sink.faults c.close-answer.new.err) c.decide-decided.ensures.later rose)) (c.decide-decided.ensures.ran_comes unit folder list tree names told is fine spelled few none (λ rose. held (Rose-later (g.E.Sink.faults c.args.err.now) (g.E.Sink.faults c.decide-decided.new.err) (g.E.Sink.faults c.close-answer.new.err) c.close-answer.ensures.later rose)))
+
+pub returns-clause-list_fault_comes : goal.returns-clause-list_fault_comes
+returns-clause-list_fault_comes g c =
+    λ unit folder list fault names told is due none held.
+    still_comes c.decide-decided.result.answer c.close-answer.result (list_fault_answer unit list fault) (Rose (g.E.Sink.faults c.decide-decided.new.err) (g.E.Sink.faults c.close-answer.new.err)) c.close-answer.ensures.closed (λ rose. held (Rose-earlier (g.E.Sink.faults c.args.err.now) (g.E.Sink.faults c.decide-decided.new.err) (g.E.Sink.faults c.close-answer.new.err) c.decide-decided.ensures.later rose)) (c.decide-decided.ensures.list_fault_comes unit folder list fault names told is due none)

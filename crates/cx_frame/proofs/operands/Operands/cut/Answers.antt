@@ -1,7 +1,6 @@
-use Rattle.std.proofs.Common.{sym}
-use Rattle.cx_frame.proofs.Reversed.{drop-reverse}
+use Rattle.std.proofs.Common.{arith}
+use Rattle.cx_frame.proofs.Reversed.{low_of}
 use Rattle.cx_frame.proofs.operands.Operands.cut.Goals as goal
-use Rattle.std.proofs.lemmas.List.{length-reverse}
 
-pub returns : goal.returns
-returns c = rw (← c.self.view_is, c.truncate.ensures.items, length-reverse) (sym (drop-reverse c.args.depth c.self.inside.values.items))
+pub returns-then-depth-self : goal.returns-then-depth-self
+returns-then-depth-self c = rw (← c.self.view_is) (low_of c.args.depth c.self.inside.top c.self.inside.values.items (omega (arith, c.if-depth-self.true)))

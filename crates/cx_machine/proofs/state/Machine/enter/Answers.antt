@@ -5,10 +5,10 @@ use Rattle.cx_machine.proofs.state.Machine.enter.Goals as goal
 
 pub returns-then-is_too_deep-clause-err : goal.returns-then-is_too_deep-clause-err
 returns-then-is_too_deep-clause-err c = λ store.
-    let deep : is_too_deep c.args.image.now (state_of c.args.self.now store) c.function_at-function.result.now ≡ true = sym (c.is_too_deep.ensures.value store) ∙ c.if-is_too_deep.true in
+    let deep : is_too_deep c.args.image.now (state_of c.args.self.now store) c.function_at-function.result.now ≡ true = sym (c.is_too_deep.ensures.value c.args.image.now store c.requires.counted) ∙ c.if-is_too_deep.true in
     (rw (c.function_at-function.ensures, deep) refl, tt)
 
 pub returns-clause-ok : goal.returns-clause-ok
 returns-clause-ok c = λ store.
-    let deep : is_too_deep c.args.image.now (state_of c.args.self.now store) c.function_at-function.result.now ≡ false = sym (c.is_too_deep.ensures.value store) ∙ c.if-is_too_deep.false in
+    let deep : is_too_deep c.args.image.now (state_of c.args.self.now store) c.function_at-function.result.now ≡ false = sym (c.is_too_deep.ensures.value c.args.image.now store c.requires.counted) ∙ c.if-is_too_deep.false in
     rw (c.in_ok-cover.ensures.ok, c.function_at-function.ensures, deep, c.in_ok-slots.ensures.slots, c.in_ok-slots.ensures.rest, c.new.ensures, c.new-2.ensures) refl

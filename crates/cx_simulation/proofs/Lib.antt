@@ -1,0 +1,5 @@
+pub mod Steps
+pub mod Cut
+pub mod Named
+pub mod Halts
+pub mod Permitted
