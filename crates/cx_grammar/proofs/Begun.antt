@@ -9,7 +9,7 @@ use Rattle.cx_table.specs.declared.symbol.Part.TheVariants.{ClassRest}
 use Rattle.cx_table.specs.declared.symbol.Symbol.{Symbol}
 use Rattle.cx_table.specs.declared.symbol.Symbol.TheVariants.{Expect, Read}
 use Rattle.cx_parser.specs.Machine.{config, exec, first_stack, front, start}
-use Rattle.cx_parser.specs.Values.{Values, mark_val, unit_val}
+use Rattle.cx_values.specs.Values.{Values, mark_val, unit_val}
 use Rattle.cx_parser.proofs.Ends.{Standing, standing, start_standing}
 use Rattle.cx_parser.proofs.Items.{accepts}
 use Rattle.cx_parser.proofs.Runs.{Takes}

@@ -13,7 +13,7 @@ use Rattle.cx_syntax.specs.Spell.{Spot, Spots, spot}
 use Rattle.cx_table.specs.Moves.{Move, eat, halt, move, push}
 use Rattle.cx_table.specs.Sorts.{fits}
 use Rattle.cx_parser.specs.Machine.{Config, Step, config, eats, exec, goes, left_as, mark_at, moved, reduced, seen, stays, step, value_at}
-use Rattle.cx_parser.specs.Values.{Values, reduce}
+use Rattle.cx_values.specs.Values.{Values, reduce}
 use Rattle.cx_parser.proofs.Same.{word_same}
 use Rattle.cx_grammar.proofs.Good.{good, good_move, goods, goods_append, is_class_stack, is_key, known_after, known_goods, known_still, no_key, part_good}
 

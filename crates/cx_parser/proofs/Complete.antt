@@ -15,7 +15,7 @@ use Rattle.cx_table.specs.declared.symbol.Symbol.{Symbol}
 use Rattle.cx_table.specs.declared.symbol.Symbol.TheVariants.{Expect, Make, Read}
 use Rattle.cx_parser.proofs.KeepsStatements.{not_both}
 use Rattle.cx_parser.proofs.Typed.{Fn, Typed}
-use Rattle.cx_parser.specs.Values.{Values, expr_val, flag_val, handlers_val, init_row_val, list_val, mark_val, members_val, pointers_val, row_val, specs_val, stmt_val, stmts_val, type_val, unit_val}
+use Rattle.cx_values.specs.Values.{Values, expr_val, flag_val, handlers_val, init_row_val, list_val, mark_val, members_val, pointers_val, row_val, specs_val, stmt_val, stmts_val, type_val, unit_val}
 use Rattle.cx_syntax.specs.Shaped.{ShapedUnit, contracts_name, is_open}
 use Rattle.cx_syntax.specs.Spell.{Marks, name, numbered, sign, spell, spot, word}
 use Rattle.cx_syntax.specs.Tree.{Suffix, TypeTree, UnitTree, access, after, any_catch, block, branches, class_base, class_named, constructor, declared, empty, evaluate, field, function, global, handler, leaf, local, member_init, method, no_args, no_init, no_inits, no_params, no_specs, no_stars, no_stmts, outer_constructor, param, plain, standard, suffix, type_tree, unmade, unnamed, without, word_base}

@@ -16,7 +16,7 @@ use Rattle.cx_parser.proofs.Runs.{Takes, exec_add}
 use Rattle.cx_parser.proofs.Same.{punct_same, word_same}
 use Rattle.cx_parser.proofs.Typed.{Fn, Typed}
 use Rattle.cx_parser.specs.Machine.{Config, Step, ahead, config, eats, exec, first_stack, front, goes, left_as, moved, next, seen, start, stays, step}
-use Rattle.cx_parser.specs.Values.{Values, mark_val, unit_val}
+use Rattle.cx_values.specs.Values.{Values, mark_val, unit_val}
 use Rattle.cx_syntax.specs.Place.{Begins, IsPlace, IsTree}
 use Rattle.cx_syntax.specs.Shaped.{ShapedUnit, contracts_name, is_named}
 use Rattle.cx_syntax.specs.Spell.{Marks, Spot, Spots, numbered, sign, spell, spot, word}

@@ -12,7 +12,7 @@ use Rattle.cx_parser.proofs.Facts.{assign_facts, colon_facts, member_facts, step
 use Rattle.cx_parser.proofs.Runs.{Takes, done, steps}
 use Rattle.cx_parser.proofs.Spine.{Good, args_scope, assign_good, binary_good, call_post, choose_good, member_post, postfix_good, stepped_post}
 use Rattle.cx_parser.specs.Machine.{Config, config, front, rest}
-use Rattle.cx_parser.specs.Values.{Values, expr_val, mark_val}
+use Rattle.cx_values.specs.Values.{Values, expr_val, mark_val}
 use Rattle.cx_syntax.specs.Shaped.{Shaped, ShapedCond, begins_type}
 use Rattle.cx_syntax.specs.Spell.{Spots, name, sign, spell_args, spell_expr}
 use Rattle.cx_syntax.specs.Tree.{Expr, assign, binary, call, choose, leaf, library, member, paren, standard, static_cast, stepped, temporary, unary, word_cast}

@@ -15,7 +15,7 @@ use Rattle.cx_parser.proofs.Runs.{Takes, by_step, done, eqb_above, steps, thus}
 use Rattle.cx_parser.proofs.Spine.{Good, Listed, Whole, assign_good, binary_good, call_post, choose_good, full_good, member_post, open_args, postfix_good, stepped_post}
 use Rattle.cx_parser.proofs.Types.{type_run}
 use Rattle.cx_parser.specs.Machine.{Config, config, front}
-use Rattle.cx_parser.specs.Values.{Values, expr_val, list_val, maybe_val}
+use Rattle.cx_values.specs.Values.{Values, expr_val, list_val, maybe_val}
 use Rattle.cx_syntax.specs.Same.{same_punct}
 use Rattle.cx_syntax.specs.Shaped.{IfShaped, Shaped, ShapedArgs, ShapedCond, ShapedSeveral, contracts_name, is_leaf, is_named}
 use Rattle.cx_syntax.specs.Spell.{Spots, if_expr, name, sign, spell_args, spell_expr, spell_several}

@@ -19,7 +19,7 @@ use Rattle.cx_parser.proofs.Spine.{open_args}
 use Rattle.cx_parser.proofs.Statements.{EndsParam, block_run, param_run, type_opens}
 use Rattle.cx_parser.proofs.Types.{word_run}
 use Rattle.cx_parser.specs.Machine.{Config, ahead, config, front, left_as, moved, next, rest}
-use Rattle.cx_parser.specs.Values.{Values, flag_val, init_row_val, inits_val, making_val, mark_val, member_init_val, params_val, row_val, spec_val, specs_val, suffix_val, tail_val}
+use Rattle.cx_values.specs.Values.{Values, flag_val, init_row_val, inits_val, making_val, mark_val, member_init_val, params_val, row_val, spec_val, specs_val, suffix_val, tail_val}
 use Rattle.cx_syntax.specs.Shaped.{ShapedCond, ShapedInitRow, ShapedInits, ShapedMaking, ShapedMemberInit, ShapedParams, ShapedRow, ShapedSpec, ShapedSpecs, ShapedSuffix, ShapedTail, is_named, post_name, pre_name}
 use Rattle.cx_syntax.specs.Spell.{Spots, if_word, sign, spell_block, spell_expr, spell_init_row, spell_inits, spell_making, spell_member_init, spell_optional_name, spell_param, spell_params, spell_row, spell_spec, spell_specs, spell_suffix, spell_tail}
 use Rattle.cx_syntax.specs.Tree.{Block, Expr, InitRow, Inits, Making, MemberInit, ParamRow, Params, Spec, Specs, Suffix, Tail, after, after_named, before, block, declared, defined, inits, leaf, made, member_init, more_inits, more_params, more_specs, no_inits, no_params, no_specs, one_init, one_param, param, params, suffix, unmade}

@@ -17,7 +17,7 @@ use Rattle.cx_parser.proofs.Runs.{Takes, by_step, done, steps, thus}
 use Rattle.cx_parser.proofs.Statements.{block_run}
 use Rattle.cx_parser.proofs.Types.{Parts, rest_run, type_run}
 use Rattle.cx_parser.specs.Machine.{ahead, config, front, left_as, moved, next, rest, start}
-use Rattle.cx_parser.specs.Values.{Values, constant_val, flag_val, item_val, mark_val, type_val, unit_val}
+use Rattle.cx_values.specs.Values.{Values, constant_val, flag_val, item_val, mark_val, type_val, unit_val}
 use Rattle.cx_syntax.specs.Shaped.{ShapedConstant, ShapedItem, ShapedType, ShapedUnit}
 use Rattle.cx_syntax.specs.Spell.{Spots, class_name, if_word, name, sign, spell, spell_block, spell_constant, spell_inits, spell_item, spell_items, spell_params, spell_suffix, spell_tail, spell_type}
 use Rattle.cx_syntax.specs.Tree.{Constant, Item, Params, TypeTree, UnitTree, class_base, class_defined, class_named, external, function, global, library_base, long_long, more_items, negative, no_items, no_params, outer_constructor, outer_destructor, outer_method, params, plain, type_tree, unsigned_int, unsigned_long_long, with_value, without, word_base}

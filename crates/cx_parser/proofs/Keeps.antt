@@ -11,7 +11,7 @@ use Rattle.cx_parser.proofs.KeepsItems.{k_after_class, k_after_name, k_after_typ
 use Rattle.cx_parser.proofs.KeepsStatements.{k_base, k_block, k_catch, k_else, k_handler, k_handlers, k_init, k_local, k_opt_sign, k_opt_word, k_simple, k_simple_std, k_star, k_stmt, k_stmts, k_type, k_unsigned}
 use Rattle.cx_parser.proofs.Kept.{Kept}
 use Rattle.cx_parser.proofs.Typed.{Fn, Typed}
-use Rattle.cx_parser.specs.Values.{Values}
+use Rattle.cx_values.specs.Values.{Values}
 use Rattle.cx_table.specs.Moves.{move}
 
 pub kept : (x : Part) (k : List Symbol) (o : Option Mark) (vs : Values) (c : Fn) → Typed (Read x ∷ k) o vs c → Kept (move x o) k o vs c

@@ -17,7 +17,7 @@ use Rattle.cx_parser.proofs.Kept.{Kept, kept_either, kept_sign}
 use Rattle.cx_parser.proofs.Runs.{eqb_above, equal_eqb}
 use Rattle.cx_parser.proofs.Same.{punct_same}
 use Rattle.cx_parser.proofs.Typed.{Fn, Typed}
-use Rattle.cx_parser.specs.Values.{Values, expr_val, list_val, mark_val}
+use Rattle.cx_values.specs.Values.{Values, expr_val, list_val, mark_val}
 use Rattle.cx_syntax.specs.Same.{same_punct}
 use Rattle.cx_syntax.specs.Shaped.{Shaped, at_of, begins_type, contracts_name, is_assign, is_cast, is_cond, is_leaf, is_member, is_postfix, is_step, looseness, rank}
 use Rattle.cx_syntax.specs.Spell.{Spots, class_name, name, sign, spell_args, spell_expr, spell_several, spot, word}

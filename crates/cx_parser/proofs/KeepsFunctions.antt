@@ -10,7 +10,7 @@ use Rattle.cx_table.specs.declared.symbol.Symbol.TheVariants.{Make, Read}
 use Rattle.cx_parser.proofs.KeepsExpressions.{cond_rank, tails_typed}
 use Rattle.cx_parser.proofs.Kept.{Kept, kept_sign}
 use Rattle.cx_parser.proofs.Typed.{Fn, Typed}
-use Rattle.cx_parser.specs.Values.{Values, init_row_val, mark_val, row_val, specs_val}
+use Rattle.cx_values.specs.Values.{Values, init_row_val, mark_val, row_val, specs_val}
 use Rattle.cx_syntax.specs.Shaped.{is_named, post_name, pre_name}
 use Rattle.cx_syntax.specs.Spell.{name, sign, spell_block, spell_expr, spell_member_init, spell_optional_name, spell_param, spell_row, spell_spec, spell_specs, spot}
 use Rattle.cx_syntax.specs.Tree.{Specs, after, after_named, before, declared, defined, inits, leaf, made, member_init, named, no_inits, no_params, param, params, suffix, unmade, unnamed}

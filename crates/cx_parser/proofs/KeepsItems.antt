@@ -13,7 +13,7 @@ use Rattle.cx_table.specs.declared.symbol.Symbol.{Symbol}
 use Rattle.cx_table.specs.declared.symbol.Symbol.TheVariants.{Expect, Make, Read}
 use Rattle.cx_parser.proofs.Kept.{Kept, kept_either, kept_sign}
 use Rattle.cx_parser.proofs.Typed.{Fn, MemberComes, Typed}
-use Rattle.cx_parser.specs.Values.{Values, flag_val, mark_val, members_val, type_val, unit_val}
+use Rattle.cx_values.specs.Values.{Values, flag_val, mark_val, members_val, type_val, unit_val}
 use Rattle.cx_syntax.specs.Shaped.{ShapedType}
 use Rattle.cx_syntax.specs.Spell.{Spots, class_name, if_sign, if_word, name, sign, spell_block, spell_constant, spell_inits, spell_item, spell_making, spell_member, spell_members, spell_params, spell_suffix, spell_tail, spell_type, spot, word}
 use Rattle.cx_syntax.specs.Tree.{TypeTree, access, class_defined, class_named, constructor, destructor, external, field, function, global, method, negative, outer_constructor, outer_destructor, outer_method, plain, with_value, without}

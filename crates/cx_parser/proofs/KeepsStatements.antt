@@ -15,7 +15,7 @@ use Rattle.cx_parser.proofs.Facts.{cast_facts}
 use Rattle.cx_parser.proofs.KeepsExpressions.{tails_typed}
 use Rattle.cx_parser.proofs.Kept.{Kept, kept_either, kept_sign, kept_word}
 use Rattle.cx_parser.proofs.Typed.{Fn, SimpleComes, Typed}
-use Rattle.cx_parser.specs.Values.{Values, base_val, expr_val, handlers_val, mark_val, pointers_val, stmt_val, stmts_val}
+use Rattle.cx_values.specs.Values.{Values, base_val, expr_val, handlers_val, mark_val, pointers_val, stmt_val, stmts_val}
 use Rattle.cx_syntax.specs.Shaped.{Shaped, begins_type, contracts_name, is_named, is_open, is_simple}
 use Rattle.cx_syntax.specs.Spell.{Spots, class_name, if_expr, if_sign, if_word, name, sign, spell_base, spell_block, spell_handler, spell_handlers, spell_init, spell_stmt, spot, standard_contracts, word}
 use Rattle.cx_syntax.specs.Tree.{Expr, Stmt, any_catch, asserts, assign, binary, block, branch, branches, breaks, call, choose, class_base, compound, continues, declare, empty, equals, evaluate, for_loop, handler, leaf, library, library_base, local, long_long, member, no_init, paren, parens, returns, standard, static_cast, stepped, temporary, throws, tries, type_tree, typed_catch, unary, unsigned_int, unsigned_long_long, while_loop, word_base, word_cast}

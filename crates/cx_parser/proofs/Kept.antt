@@ -7,7 +7,7 @@ use Rattle.cx_syntax.specs.declared.mark.Mark.TheVariants as M
 use Rattle.cx_table.specs.declared.symbol.Symbol.{Symbol}
 use Rattle.cx_parser.proofs.Same.{punct_same, word_same}
 use Rattle.cx_parser.proofs.Typed.{Fn, Typed}
-use Rattle.cx_parser.specs.Values.{Values, mark_val}
+use Rattle.cx_values.specs.Values.{Values, mark_val}
 use Rattle.cx_syntax.specs.Same.{same_punct, same_word}
 use Rattle.cx_syntax.specs.Spell.{sign, spot, word}
 use Rattle.cx_table.specs.Moves.{Move, eat, push}

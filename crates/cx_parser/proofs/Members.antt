@@ -14,7 +14,7 @@ use Rattle.cx_parser.proofs.Runs.{Takes, by_step, done, steps, thus}
 use Rattle.cx_parser.proofs.Statements.{type_opens}
 use Rattle.cx_parser.proofs.Types.{rest_run, type_run}
 use Rattle.cx_parser.specs.Machine.{config, front, next, rest}
-use Rattle.cx_parser.specs.Values.{Values, flag_val, mark_val, member_val, members_val, type_val}
+use Rattle.cx_values.specs.Values.{Values, flag_val, mark_val, member_val, members_val, type_val}
 use Rattle.cx_syntax.specs.Shaped.{ShapedMaking, ShapedMember, ShapedMembers, ShapedParams, ShapedSuffix, ShapedTail, ShapedType}
 use Rattle.cx_syntax.specs.Spell.{Spots, class_name, if_sign, if_word, name, sign, spell_making, spell_member, spell_members, spell_params, spell_stars, spell_suffix, spell_tail, spell_type}
 use Rattle.cx_syntax.specs.Tree.{Making, Member, Members, Params, Stars, Suffix, Tail, TypeTree, access, class_base, constructor, destructor, field, library_base, long_long, method, more_members, no_members, no_params, no_stars, params, star, type_tree, unsigned_int, unsigned_long_long, word_base}

@@ -5,7 +5,7 @@ use Rattle.cx_parser.proofs.Items.{accepts}
 use Rattle.cx_parser.proofs.Runs.{Takes}
 use Rattle.cx_parser.specs.Laws.{AtMostOnePlace, AtMostOneTree, PrefixesBegin, TreeOrPlace}
 use Rattle.cx_parser.specs.Machine.{config, start}
-use Rattle.cx_parser.specs.Values.{unit_val}
+use Rattle.cx_values.specs.Values.{unit_val}
 use Rattle.cx_syntax.specs.Place.{IsPlace}
 use Rattle.cx_syntax.specs.Spell.{Spots, numbered}
 

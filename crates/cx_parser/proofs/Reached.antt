@@ -10,7 +10,7 @@ use Rattle.cx_parser.proofs.Ends.{Standing, standing, start_standing, the_place,
 use Rattle.cx_parser.proofs.Runs.{exec_add}
 use Rattle.cx_parser.specs.Machine.{Config, ahead, config, eats, exec, first_stack, front, left_as, mark_at, moved, next, reduced, rest, start, stays, value_at}
 use Rattle.cx_parser.specs.Reads.{At, Reads, ReadsEnd, Settles, Silent, Stands, bare_exec, gone}
-use Rattle.cx_parser.specs.Values.{Values}
+use Rattle.cx_values.specs.Values.{Values}
 use Rattle.cx_syntax.specs.Place.{Grammatical, IsPlace}
 use Rattle.cx_syntax.specs.Spell.{Marks, Spot, Spots, numbered}
 use Rattle.cx_table.specs.Moves.{Move, eat, halt, move, push}

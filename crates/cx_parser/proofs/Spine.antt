@@ -11,7 +11,7 @@ use Rattle.cx_table.specs.declared.symbol.Symbol.TheVariants.{Make, Read}
 use Rattle.cx_parser.proofs.Facts.{assign_facts, member_facts, no_question, scope_facts, step_facts}
 use Rattle.cx_parser.proofs.Runs.{Takes, by_step, done, eqb_above, eqb_equal, steps, thus}
 use Rattle.cx_parser.specs.Machine.{Config, config, front, mark_at, next, rest}
-use Rattle.cx_parser.specs.Values.{Values, args_val, expr_val, mark_val}
+use Rattle.cx_values.specs.Values.{Values, args_val, expr_val, mark_val}
 use Rattle.cx_syntax.specs.Shaped.{at_of, is_assign, is_cond, is_member, is_postfix, is_step, looseness, rank}
 use Rattle.cx_syntax.specs.Spell.{Spots, name, sign, spell_args, spell_expr}
 use Rattle.cx_syntax.specs.Tree.{Args, Expr, args, assign, binary, call, choose, member, no_args, stepped}

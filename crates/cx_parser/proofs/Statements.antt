@@ -16,7 +16,7 @@ use Rattle.cx_parser.proofs.Facts.{Opens, base_facts, free_facts}
 use Rattle.cx_parser.proofs.Runs.{Takes, by_step, done, steps, thus}
 use Rattle.cx_parser.proofs.Types.{Parts, rest_run, type_run}
 use Rattle.cx_parser.specs.Machine.{Config, ahead, config, front, left_as, moved, next}
-use Rattle.cx_parser.specs.Values.{Values, block_val, catching_val, handler_val, handlers_val, init_val, name_val, param_val, stmt_val, stmts_val, type_val}
+use Rattle.cx_values.specs.Values.{Values, block_val, catching_val, handler_val, handlers_val, init_val, name_val, param_val, stmt_val, stmts_val, type_val}
 use Rattle.cx_syntax.specs.Shaped.{ShapedBlock, ShapedCatching, ShapedFree, ShapedHandler, ShapedHandlers, ShapedInit, ShapedLocal, ShapedParam, ShapedStmt, ShapedStmts, ShapedType, contracts_name, is_named, is_open, is_simple, star_count}
 use Rattle.cx_syntax.specs.Spell.{Spots, if_expr, name, sign, spell_block, spell_catching, spell_expr, spell_handler, spell_handlers, spell_init, spell_optional_name, spell_param, spell_stmt, spell_stmts, spell_type, word}
 use Rattle.cx_syntax.specs.Tree.{Block, Catching, Expr, Handler, Handlers, Init, OptionalName, Param, Stars, Stmt, Stmts, TypeTree, any_catch, asserts, assign, binary, block, branch, branches, breaks, call, choose, class_base, compound, continues, declare, empty, equals, evaluate, for_loop, handler, library_base, local, long_long, member, more_handlers, more_stmts, named, no_init, no_stmts, one_handler, param, parens, returns, standard, stepped, throws, tries, type_tree, typed_catch, unnamed, unsigned_int, unsigned_long_long, while_loop, word_base}

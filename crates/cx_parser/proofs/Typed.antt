@@ -14,7 +14,7 @@ use Rattle.cx_table.specs.declared.symbol.Part.TheVariants.{Assign, AssignTail, 
 use Rattle.cx_table.specs.declared.symbol.Symbol.{Symbol}
 use Rattle.cx_table.specs.declared.symbol.Symbol.TheVariants.{Expect, Make, Read}
 use Rattle.cx_parser.proofs.Expressions.{first}
-use Rattle.cx_parser.specs.Values.{Value, Values, args_val, base_val, block_val, catching_val, constant_val, expr_val, flag_val, handler_val, handlers_val, init_row_val, init_val, inits_val, item_val, list_val, local_val, making_val, mark_val, maybe_val, member_init_val, member_val, members_val, name_val, param_val, params_val, pointers_val, reduce, row_val, spec_val, specs_val, stmt_val, stmts_val, suffix_val, tail_val, type_val, unit_val}
+use Rattle.cx_values.specs.Values.{Value, Values, args_val, base_val, block_val, catching_val, constant_val, expr_val, flag_val, handler_val, handlers_val, init_row_val, init_val, inits_val, item_val, list_val, local_val, making_val, mark_val, maybe_val, member_init_val, member_val, members_val, name_val, param_val, params_val, pointers_val, reduce, row_val, spec_val, specs_val, stmt_val, stmts_val, suffix_val, tail_val, type_val, unit_val}
 use Rattle.cx_syntax.specs.Shaped.{IfShaped, Shaped, ShapedArgs, ShapedBase, ShapedBlock, ShapedCatching, ShapedConstant, ShapedHandler, ShapedHandlers, ShapedInit, ShapedInitRow, ShapedInits, ShapedItem, ShapedLocal, ShapedMaking, ShapedMember, ShapedMemberInit, ShapedMembers, ShapedParam, ShapedParams, ShapedRow, ShapedSeveral, ShapedSpec, ShapedSpecs, ShapedStmt, ShapedStmts, ShapedSuffix, ShapedTail, ShapedType, ShapedUnit, begins_type, contracts_name, is_class_key, is_cond, is_named, is_open, is_postfix, is_simple, post_name, rank, star_count}
 use Rattle.cx_syntax.specs.Spell.{Spots, class_name, if_expr, if_sign, if_word, name, sign, spell_args, spell_base, spell_block, spell_catching, spell_constant, spell_expr, spell_handler, spell_handlers, spell_init, spell_init_row, spell_inits, spell_item, spell_items, spell_local, spell_making, spell_member, spell_member_init, spell_members, spell_optional_name, spell_param, spell_params, spell_row, spell_several, spell_spec, spell_specs, spell_stars, spell_stmt, spell_stmts, spell_suffix, spell_tail, spell_type, spot, word}
 use Rattle.cx_syntax.specs.Tree.{Args, Base, Block, Catching, Constant, Expr, Handler, Handlers, Init, InitRow, Inits, Item, Local, Making, Member, MemberInit, Members, OptionalName, Param, ParamRow, Params, Several, Spec, Specs, Stars, Stmt, Stmts, Suffix, Tail, TypeTree, UnitTree, branch}

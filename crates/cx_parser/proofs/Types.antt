@@ -15,7 +15,7 @@ use Rattle.cx_parser.proofs.Facts.{base_facts}
 use Rattle.cx_parser.proofs.Runs.{Takes, done, steps, thus}
 use Rattle.cx_parser.proofs.Same.{punct_self, word_self}
 use Rattle.cx_parser.specs.Machine.{config, front}
-use Rattle.cx_parser.specs.Values.{Values, base_val, flag_val, pointers_val, type_val}
+use Rattle.cx_values.specs.Values.{Values, base_val, flag_val, pointers_val, type_val}
 use Rattle.cx_syntax.specs.Shaped.{ShapedBase, ShapedType, contracts_name, is_named, star_count}
 use Rattle.cx_syntax.specs.Spell.{Spots, if_sign, if_word, sign, spell_base, spell_stars, spell_type}
 use Rattle.cx_syntax.specs.Tree.{Base, Stars, TypeTree, class_base, library_base, long_long, no_stars, star, type_tree, unsigned_int, unsigned_long_long, word_base}

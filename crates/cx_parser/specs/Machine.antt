@@ -5,7 +5,7 @@ use Rattle.cx_table.specs.declared.symbol.Act.TheVariants.{DoNoItems}
 use Rattle.cx_table.specs.declared.symbol.Part.TheVariants.{ItemsPart}
 use Rattle.cx_table.specs.declared.symbol.Symbol.{Symbol}
 use Rattle.cx_table.specs.declared.symbol.Symbol.TheVariants.{Expect, Make, Read}
-use Rattle.cx_parser.specs.Values.{Value, Values, mark_val, reduce}
+use Rattle.cx_values.specs.Values.{Value, Values, mark_val, reduce}
 use Rattle.cx_syntax.specs.Spell.{Spot, Spots, spot}
 use Rattle.cx_table.specs.Moves.{Move, eat, move, push}
 use Rattle.cx_table.specs.Sorts.{fits}

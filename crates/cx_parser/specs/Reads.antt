@@ -10,7 +10,7 @@ use Rattle.cx_parser.specs.declared.recognizer.Settled.TheVariants.{Ate, Ended, 
 use Rattle.cx_parser.specs.declared.recognizer.ParseFault.{ParseFault}
 use Rattle.cx_parser.specs.declared.recognizer.ParseFault.TheVariants.{OutOfMemory, SyntaxAt}
 use Rattle.cx_parser.specs.Machine.{config, exec, start}
-use Rattle.cx_parser.specs.Values.{Values}
+use Rattle.cx_values.specs.Values.{Values}
 use Rattle.cx_syntax.specs.Place.{Grammatical, IsPlace}
 use Rattle.cx_syntax.specs.Spell.{Marks, numbered}
 use Rattle.cx_table.specs.Steps.{Bare, bare, bare_eats, bare_goes, bare_stays, wait}
