@@ -1,12 +1,10 @@
 -- What is written of a text, and what several units of the budget are.
-use Rattle.std.proofs.Common.{◌≡◌, ℕ, zero, suc, ◌-◌, ◌+◌, List, [], ◌∷◌, take, nat_eq, Bool, true, false, refl, ap, arith, Result, Ok, Err, length, not}
+use Rattle.std.proofs.Common.{◌≡◌, ℕ, zero, suc, ◌-◌, ◌+◌, List, [], ◌∷◌, nat_eq, false, refl, arith, length, not}
 use Rattle.std.proofs.lemmas.Bool.Decides.{nat_tests}
 use Rattle.std.specs.List.{prefix_len}
-use Rattle.cx_core.specs.Outcome.{State, either, ◌>>◌, spend, spend_all, Nothing}
-use Rattle.cx_core.specs.Library.{write_bytes, puts_call}
-use Rattle.cx_plain_state.specs.declared.answer.Halt.{Halt}
-use Rattle.cx_plain_state.specs.Library.{write_line, write_byte, puts_of}
-use Rattle.cx_plain_state.specs.Ran.{Ran}
+use Rattle.cx_core.specs.Outcome.{◌>>◌, spend, spend_all}
+use Rattle.cx_core.specs.Library.{write_bytes}
+use Rattle.cx_plain_state.specs.Library.{write_line, write_byte}
 
 pub line_ends : write_line [] ≡ write_bytes (10 ∷ [])
 unfolding write_line
@@ -31,8 +29,3 @@ no_items (x ∷ xs) h = absurd (omega arith)
 
 pub not_zero : (b : ℕ) → (b ≡ 0 → ⊥) → nat_eq 0 b ≡ false
 not_zero b h = grind (arith, nat_tests)
-
--- `puts` writes a line
-pub puts_is : (text : List ℕ) → puts_call text ≡ puts_of text
-unfolding write_line
-puts_is text = refl

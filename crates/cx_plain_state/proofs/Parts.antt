@@ -1,7 +1,6 @@
 -- How parts that follow each other come to an answer.
 use Rattle.std.proofs.Common.{◌≡◌, Result, Ok, Err, refl}
-use Rattle.cx_core.specs.Event as event
-use Rattle.cx_core.specs.Outcome.{Outcome, on, thrown, over, State, Exception, Does, either, gives, throws, ends, after}
+use Rattle.cx_core.specs.Outcome.{Outcome, State, Exception, Does, either, gives, throws, ends}
 use Rattle.cx_plain_state.specs.declared.answer.Halt.{Halt}
 use Rattle.cx_plain_state.specs.declared.answer.Halt.TheVariants.{Thrown, Over, Want}
 use Rattle.cx_plain_state.specs.declared.answer.Exception as rust
@@ -13,11 +12,6 @@ pub ran-then : {T U A B : Type 0} {f : T → A} {g : U → B} (m : Does A) (next
     Ran f (m s) (Ok a) s1 → Ran g (next (f a) s1) r s2 → Ran g (either m next h s) r s2
 unfolding either
 ran-then m next h p q = record { comes = rw p.comes q.comes }
-
-pub ran-handled : {T U A B : Type 0} {f : T → A} {g : U → B} (m : Does A) (next : A → Does B) (h : Exception → Does B) {e : rust.Exception} {r : Result U Halt} {s s1 s2 : State} →
-    Ran f (m s) (Err (Thrown e)) s1 → Ran g (h (exception_of e) s1) r s2 → Ran g (either m next h s) r s2
-unfolding either
-ran-handled m next h p q = record { comes = rw p.comes q.comes }
 
 pub ran-want : {U B : Type 0} {g : U → B} {o : Outcome B} {s : State} → Ran g o (Err Want) s
 ran-want = record { comes = tt {0} }
@@ -45,12 +39,6 @@ unfolding either throws
 halts-passes m next {halt = Thrown e} p = record { stops = rw p.stops refl }
 halts-passes m next {halt = Over answer} p = record { stops = rw p.stops refl }
 halts-passes m next {halt = Want} p = record { stops = tt {0} }
-
--- the end of the run passes by each handler
-pub halts-over : {A B : Type 0} (m : Does A) (next : A → Does B) (h : Exception → Does B) {answer : rust_answer.Answer} {s s1 : State} →
-    Halts (m s) (Over answer) s1 → Halts (either m next h s) (Over answer) s1
-unfolding either
-halts-over m next h p = record { stops = rw p.stops refl }
 
 -- ----
 

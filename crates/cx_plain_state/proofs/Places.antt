@@ -1,5 +1,5 @@
 -- What the place of an object says of the store.
-use Rattle.std.proofs.Common.{◌≡◌, ℕ, zero, suc, ◌<◌, ◌≤◌, length, arith, Result, Ok, Err, nat_lt, ◌++◌, List, [], ◌∷◌, map, take, drop, Option, Some, None, refl, ap, sym, ◌∙◌, nat_eq, Bool, true, false, if◌then◌else◌, get_or}
+use Rattle.std.proofs.Common.{◌≡◌, ℕ, zero, suc, ◌<◌, ◌≤◌, length, arith, Ok, Err, nat_lt, List, [], ◌∷◌, map, Option, Some, None, refl, ap, sym, ◌∙◌, nat_eq, true, false, if◌then◌else◌, get_or}
 use Rattle.std.specs.Option.{option_map}
 use Rattle.std.specs.List.{remove}
 use Rattle.std.specs.Prelude.{slice_set, slice_get}
@@ -8,7 +8,7 @@ use Rattle.std.proofs.lemmas.List.{length-map}
 use Rattle.std.proofs.lemmas.Option.{slice_get-map}
 use Rattle.std.proofs.lemmas.Bool.{lt-ltb}
 use Rattle.std.proofs.lemmas.Bool.Decides.{nat_tests}
-use Rattle.cx_core.specs.Words.{Kind, Dead}
+use Rattle.cx_core.specs.Words.{Dead}
 use Rattle.cx_core.specs.Store.{leaves_of, without, with_leaves, leaf_at, written}
 use Rattle.cx_plain_state.specs.declared.value.Value.{Value}
 use Rattle.cx_plain_state.specs.declared.state.Object.{Object}

@@ -6,9 +6,9 @@ use Rattle.cx_core.specs.Words.{Violation}
 use Rattle.cx_core.specs.Store.{Value, Address, number}
 use Rattle.cx_core.specs.declared.number.IntegerType.{IntegerType}
 use Rattle.cx_core.specs.Event.{out}
-use Rattle.cx_core.specs.Outcome.{Does, Nothing, ◌>>=◌, ◌>>◌, gives, skip, some, append, spend, spend_all, read}
+use Rattle.cx_core.specs.Outcome.{Does, Nothing, ◌>>=◌, ◌>>◌, gives, some, append, spend, spend_all, read}
 use Rattle.cx_core.specs.Operators.{number_of, of_type}
-use Rattle.cx_core.specs.Library.{write_bytes, byte_of, query_units, told_number, violation_in}
+use Rattle.cx_core.specs.Library.{write_bytes, byte_of, query_units, told_number, violation_in, puts_call}
 
 abbrev pub write_byte : ℕ → Does Nothing
 write_byte b = spend >> append (out b)
@@ -27,13 +27,6 @@ putchar_of v = do
 unfoldable pub write_line : List ℕ → Does Nothing
 write_line text = write_bytes (before_first (nat_eq 0) text ++ 10 ∷ [])
 
--- `puts`
-abbrev pub puts_of : List ℕ → Does Value
-puts_of text = do
-  spend
-  write_line text
-  gives (number (pos 0))
-
 abbrev pub violation_or_mixed : Value → Does Violation
 violation_or_mixed v = some (violation_in v)
 
@@ -47,7 +40,7 @@ abbrev pub puts_comment_of : Value → Does Value
 puts_comment_of report = do
   v ← some (violation_in report)
   spend_all 2
-  puts_of v.comment
+  puts_call v.comment
 
 -- the number of the type that stands at a place
 abbrev pub number_at : IntegerType → Address → Does ℤ

@@ -1,5 +1,5 @@
 -- That what a function of this program answers is what a part of the meaning comes to; this project's own.
-use Rattle.std.specs.Prelude.{◌≡◌, ℕ, List, map, Result, Ok, Err}
+use Rattle.std.specs.Prelude.{◌≡◌, List, map, Result, Ok, Err}
 use Rattle.cx_core.specs.Store as store
 use Rattle.cx_core.specs.Outcome.{Outcome, on, thrown, over, State, Nothing, nothing}
 use Rattle.cx_plain_state.specs.declared.value.Value.{Value}

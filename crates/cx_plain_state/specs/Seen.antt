@@ -1,5 +1,5 @@
 -- What the types of this crate stand for in the meaning; this project's own.
-use Rattle.std.specs.Prelude.{ℕ, List, [], map, reverse, Option, Some, None}
+use Rattle.std.specs.Prelude.{ℕ, List, [], map, reverse, Option, None}
 use Rattle.std.specs.Option.{option_map}
 use Rattle.std.specs.Global.{Vec}
 use Rattle.cx_core.specs.Tree as tree

@@ -1,4 +1,4 @@
-use Rattle.std.proofs.Common.{refl, ◌≡◌, Some, None, Ok, Err, map, sym, ◌∙◌, ap, arith, get_or}
+use Rattle.std.proofs.Common.{refl, sym, ap, get_or}
 use Rattle.cx_plain_state.specs.Seen.{address_of}
 use Rattle.cx_plain_state.proofs.Places.{leaves_nowhere, leaf_there, no_leaf_there}
 use Rattle.cx_plain_state.proofs.store.leaf_at.Goals as goal

@@ -1,6 +1,5 @@
 use Rattle.std.proofs.Common.{ap}
 use Rattle.std.proofs.lemmas.List.{map-set}
-use Rattle.cx_core.specs.Store.{Object}
 use Rattle.cx_plain_state.specs.Seen.{leaf_of}
 use Rattle.cx_plain_state.proofs.store.set_leaf.Goals as goal
 

@@ -1,5 +1,4 @@
-use Rattle.std.proofs.Common.{◌≡◌, ℕ, zero, suc, ◌∷◌, map, replicate, Option, Some, None, refl, ap, ◌∙◌}
-use Rattle.cx_plain_state.specs.declared.value.Value.{Value}
+use Rattle.std.proofs.Common.{◌≡◌, ℕ, zero, suc, ◌∷◌, map, replicate, None, refl, ap, ◌∙◌}
 use Rattle.cx_plain_state.specs.Seen.{leaf_of}
 use Rattle.cx_plain_state.proofs.store.unset.Goals as goal
 

@@ -1,4 +1,4 @@
-use Rattle.std.proofs.Common.{refl, ◌≡◌, Some, None, Ok, Err, map, sym, ◌∙◌, ap, arith, get_or}
+use Rattle.std.proofs.Common.{refl, ap, get_or}
 use Rattle.cx_plain_state.specs.Seen.{leaf_of, address_of}
 use Rattle.cx_plain_state.proofs.Places.{leaves_nowhere, written_there, not_written_there}
 use Rattle.cx_plain_state.proofs.store.written.Goals as goal

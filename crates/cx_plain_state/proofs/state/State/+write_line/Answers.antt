@@ -1,4 +1,3 @@
-use Rattle.std.proofs.Common.{Ok, Err}
 use Rattle.std.proofs.lemmas.Result.{err_from_is_err_and}
 use Rattle.cx_plain_state.proofs.Parts.{ran}
 use Rattle.cx_plain_state.proofs.Lines.{line_ends, line_stops, line_goes_on, no_items, not_zero}

@@ -1,8 +1,6 @@
-use Rattle.std.proofs.Common.{◌≡◌, ℕ, zero, suc, ◌+◌, ◌∷◌, List, map, replicate, Option, Some, None, refl, ap, rules, sym, ◌∙◌, arith}
-use Rattle.cx_core.specs.Outcome.{make, on}
-use Rattle.cx_core.specs.Store as store
-use Rattle.cx_plain_state.specs.declared.value.Value.{Value}
-use Rattle.cx_plain_state.specs.Seen.{state_of, leaf_of, object_of}
+use Rattle.std.proofs.Common.{◌≡◌, suc, ◌∷◌, map, replicate, None, refl, ap, ◌∙◌, arith}
+use Rattle.cx_core.specs.Outcome.{make}
+use Rattle.cx_plain_state.specs.Seen.{state_of, object_of}
 use Rattle.cx_plain_state.proofs.state.State.make.Goals as goal
 
 pub returns : goal.returns

@@ -1,10 +1,9 @@
-use Rattle.std.proofs.Common.{◌≡◌, ◌==◌, if◌then◌else◌, ℕ, List, [], ◌∷◌, map, nat_eq, find, Some, None, refl, Bool, true, false, Bor, sym, ◌∙◌, ap}
-use Rattle.std.specs.Option.{option_map, option_copied}
-use Rattle.cx_core.specs.Outcome.{State, either, current_frame, some, gives, ends}
-use Rattle.cx_core.specs.Operators.{named, denoted}
+use Rattle.std.proofs.Common.{◌≡◌, ◌==◌, if◌then◌else◌, ℕ, List, [], ◌∷◌, map, nat_eq, find, Some, None, refl, true, false, sym, ap}
+use Rattle.std.specs.Option.{option_map}
+use Rattle.cx_core.specs.Outcome.{either, current_frame, gives, ends}
+use Rattle.cx_core.specs.Operators.{denoted}
 use Rattle.cx_plain_state.specs.declared.state.Binding.{Binding}
-use Rattle.cx_plain_state.specs.Seen.{state_of, frame_of, value_of, binding_of}
-use Rattle.cx_plain_state.specs.Ran.{Ran}
+use Rattle.cx_plain_state.specs.Seen.{state_of, value_of, binding_of}
 use Rattle.cx_plain_state.proofs.state.State.named.Goals as goal
 
 denoted_found : (slot : ℕ) (xs : List Binding) → denoted (map binding_of xs) slot ≡ option_map (λ b. value_of b.value) (find (λ b. b.slot == slot) xs)

@@ -1,7 +1,6 @@
-use Rattle.std.proofs.Common.{refl, ◌≡◌, Some, None, map, sym, ◌∙◌, ap}
-use Rattle.cx_core.specs.Store.{without}
+use Rattle.std.proofs.Common.{refl}
 use Rattle.cx_core.specs.Outcome.{remove}
-use Rattle.cx_plain_state.specs.Seen.{state_of, object_of}
+use Rattle.cx_plain_state.specs.Seen.{state_of}
 use Rattle.cx_plain_state.proofs.Places.{left_where, left_nowhere}
 use Rattle.cx_plain_state.proofs.state.State.remove.Goals as goal
 

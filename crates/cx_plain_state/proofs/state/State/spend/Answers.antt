@@ -2,7 +2,6 @@ use Rattle.std.proofs.Common.{◌≡◌, ℕ, zero, suc, ◌<◌, ◌≤◌, ◌
 use Rattle.cx_core.specs.Event.{going}
 use Rattle.cx_core.specs.Outcome.{State, on, over, nothing, spend, spend_of}
 use Rattle.cx_plain_state.specs.Seen.{state_of}
-use Rattle.cx_plain_state.specs.Ran.{Ran}
 use Rattle.cx_plain_state.proofs.state.State.spend.Goals as goal
 
 spent : (b : ℕ) (s : State) → 2 ≤ b → spend_of b s ≡ on nothing (record s { budget = b - 1 })
