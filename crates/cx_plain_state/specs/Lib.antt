@@ -1,0 +1,5 @@
+pub mod Seen
+pub mod Place
+pub mod Library
+pub mod Ran
+pub mod Arithmetic
