@@ -94,7 +94,8 @@ impl Machine {
     }
 
     /// A frame comes on top, of a function that counts for the depth or doesn't.
-    #[inline(always)]
+    // Kept out of the machine's loop, which is faster without it.
+    #[inline(never)]
     fn cover(&mut self, callee: Frame, is_counted: bool) -> Result<(), Stop>
         requires few { is_counted ≡ true → self.old.counted < 4096 }
         ensures ok { OnOk result (self.new ≡ record self.old { frame = callee; below = frame_in self.old.frame ∷ self.old.below; counted = self.new.counted }) }
@@ -111,7 +112,8 @@ impl Machine {
     }
 
     /// Leaves the last frame for the one below it. The answer is false, and nothing is changed, where there is none.
-    #[inline(always)]
+    // Kept out of the machine's loop, which is faster without it.
+    #[inline(never)]
     pub fn uncover(&mut self, image: &Image) -> bool
         requires its_function { self.old.frame.function < length image.now.functions }
         requires counted { IsCounted image.now self.old }

@@ -83,6 +83,8 @@ impl Frames {
         }
     }
 
+    // Kept out of the machine's loop, as the frames' other calls are.
+    #[inline(never)]
     pub fn push(&mut self, frame: Frame) -> Result<(), NoMemory>
         ensures { OnOk result (self.new ≡ frame_in frame ∷ self.old) }
     {
@@ -96,6 +98,7 @@ impl Frames {
         }
     }
 
+    #[inline(never)]
     pub fn pop(&mut self) -> Option<Frame>
         ensures { MatchOption result ((self.old ≡ []) × (self.new ≡ [])) (λ frame. self.old ≡ frame_in frame ∷ self.new) }
     {
@@ -105,6 +108,7 @@ impl Frames {
     }
 
     /// Whether an exception is pending in one of them.
+    #[inline(never)]
     pub fn has_pending(&self, exception: Exception) -> bool
         ensures { result ≡ list_any (is_pending exception) self.now }
     {
