@@ -2,7 +2,7 @@
 #![tactic(auto)]
 
 mod arriving;
-mod effect;
+pub mod effect;
 mod item;
 pub mod laws;
 mod rule;
