@@ -1,5 +1,5 @@
 -- This defines the first of the rules that are broken at an item, and the first place of a function's code where one is; it is this project's own.
-use Rattle.std.specs.Prelude.{◌≡◌, ℕ, ◌<◌, ◌≤◌, List, Option, Some, None, slice_get}
+use Rattle.std.specs.Prelude.{◌≡◌, ℕ, ◌<◌, ◌≤◌, Option, Some, None, slice_get}
 use Rattle.cx_code.specs.declared.code.Instruction.{Instruction}
 use Rattle.cx_code.specs.declared.image.Image.{Image}
 use Rattle.cx_code.specs.declared.image.Function.{Function}
@@ -12,6 +12,10 @@ abbrev pub IsFirstOf : (Rule → Type 0) → Option Rule → Type 0
 IsFirstOf breaks None = (rule : Rule) → ¬ breaks rule
 IsFirstOf breaks (Some rule) = breaks rule × ((other : Rule) → breaks other → number_of rule ≤ number_of other)
 
+-- the first rule that the instruction at a place breaks, if it breaks one
+abbrev pub IsFirstAtPlace : Image → Function → ℕ → Option Rule → Type 0
+IsFirstAtPlace image function place found = (instruction : Instruction) × (slice_get function.code place ≡ Some instruction) × IsFirstOf (BreaksAt image function place instruction) found
+
 -- no instruction before the place breaks a rule
 abbrev pub KeepBefore : Image → Function → ℕ → Type 0
 KeepBefore image function place = (earlier : ℕ) (instruction : Instruction) (rule : Rule) → earlier < place → slice_get function.code earlier ≡ Some instruction
@@ -20,6 +24,4 @@ KeepBefore image function place = (earlier : ℕ) (instruction : Instruction) (r
 -- the first place whose instruction breaks a rule, and the first such rule; or none does
 abbrev pub IsFirstInCode : Image → Function → Option (ℕ × Rule) → Type 0
 IsFirstInCode image function None = (place : ℕ) (instruction : Instruction) (rule : Rule) → slice_get function.code place ≡ Some instruction → ¬ BreaksAt image function place instruction rule
-IsFirstInCode image function (Some found) =
-    ((instruction : Instruction) × (slice_get function.code found.0 ≡ Some instruction) × IsFirstOf (BreaksAt image function found.0 instruction) (Some found.1))
-    × KeepBefore image function found.0
+IsFirstInCode image function (Some found) = IsFirstAtPlace image function found.0 (Some found.1) × KeepBefore image function found.0

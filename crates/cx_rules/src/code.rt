@@ -1,6 +1,6 @@
-ghost use Rattle.std.specs.Prelude.{◌≡◌, length};
+ghost use Rattle.std.specs.Prelude.{◌<◌, length};
 ghost use Rattle.cx_reach.specs.Comes.{AreArrivals};
-ghost use Rattle.cx_rules.specs.First.{IsFirstInCode};
+ghost use Rattle.cx_rules.specs.First.{IsFirstAtPlace, IsFirstInCode};
 
 use crate::instruction_rule;
 use cx_code::{Function, Image};
@@ -18,12 +18,25 @@ pub fn code_rule(image: &Image, function: &Function, arrivals: &[Arrival]) -> Op
     requires { AreArrivals image.now function.now arrivals.now }
     ensures { IsFirstInCode image.now function.now result }
 {
-    for (place, instruction) in function.code.items().iter().enumerate() {
-        if let Some(rule) =
-            instruction_rule(image, function, place, *instruction, arrivals[place])
-        {
+    for place in 0..function.code.items().len() {
+        if let Some(rule) = place_rule(image, function, arrivals, place) {
             return Some((place, rule));
         }
     }
     None
+}
+
+/// The first rule that the instruction at a place breaks.
+fn place_rule(
+    image: &Image,
+    function: &Function,
+    arrivals: &[Arrival],
+    place: usize,
+) -> Option<Rule>
+    requires arrivals { AreArrivals image.now function.now arrivals.now }
+    requires place { place < length function.now.code }
+    ensures { IsFirstAtPlace image.now function.now place result }
+{
+    let instruction = function.code.items()[place];
+    instruction_rule(image, function, place, instruction, arrivals[place])
 }

@@ -32,10 +32,10 @@ returns-then-not-passes_arguments c = λ instruction o. (
 pub returns-then-runs_off : goal.returns-then-runs_off
 returns-then-runs_off c = λ instruction o. (
   (let known = sixth c.args.image.now c.args.function.now c.args.place instruction c.args.operation o c.args.arrival c.requires.arrival c.requires.indices in
-   elim c.then-runs_off.branch [
-     | then-runs_off-via-then-runs_off w ↦ known.0 (c.runs_off.ensures.0 w.if-runs_off.true)
-     | then-runs_off-via-else-runs_off+then-is_bad_arrival w ↦ known.1 (w.is_bad_arrival.ensures.0 w.if-is_bad_arrival.true)
-   ]),
+      elim c.then-runs_off.branch [
+        | then-runs_off-via-then-runs_off w ↦ known.0 (c.runs_off.ensures.0 w.if-runs_off.true)
+        | then-runs_off-via-else-runs_off+then-is_bad_arrival w ↦ known.1 (w.is_bad_arrival.ensures.0 w.if-is_bad_arrival.true)
+      ]),
   after_fifth c.args.image.now c.args.function.now c.args.place instruction c.args.operation o c.args.arrival c.requires.arrival c.requires.indices
       (c.has_places.ensures.0 c.if-not-has_places.false)
       (denied c.are_bad_depths.result (AreBadDepths c.args.function.now c.args.operation c.args.arrival.depths) c.if-are_bad_depths.false c.are_bad_depths.ensures)
