@@ -1,5 +1,5 @@
 -- What is known of how a place is reached decides which rules its instruction breaks.
-use Rattle.std.proofs.Common.{◌≡◌, ◌≢◌, ◌↔◌, ℕ, ◌≤◌, ℤ, pos, ◌<ℤ◌, Bool, false, Option, Some, None, IsTrue, IsFalse, refl, sym, ap, ◌∙◌, subst, inl, inr, lit≤}
+use Rattle.std.proofs.Common.{◌≡◌, ◌≢◌, ◌↔◌, ℕ, ◌≤◌, ℤ, pos, ◌<ℤ◌, Bool, false, Option, Some, IsTrue, refl, sym, ap, ◌∙◌, subst, inl, inr, lit≤}
 use Rattle.std.proofs.lemmas.Bool.{cases_Bool}
 use Rattle.cx_code.specs.declared.code.Instruction.{Instruction}
 use Rattle.cx_code.specs.declared.image.Image.{Image}
@@ -7,14 +7,14 @@ use Rattle.cx_code.specs.declared.image.Function.{Function}
 use Rattle.cx_code.specs.declared.operation.Operation.{Operation}
 use Rattle.cx_code.specs.declared.operation.Operation.TheVariants as does
 use Rattle.cx_code.specs.Operation.{operation_of}
-use Rattle.cx_code.specs.Reached.{Plain, Cleanup, taken_count, HasIndices}
+use Rattle.cx_code.specs.Reached.{taken_count, HasIndices}
 use Rattle.cx_code.specs.Rules.{IsInRange, HasPlaces, PassesArguments}
 use Rattle.cx_reach.specs.declared.arriving.Arrival.{Arrival}
 use Rattle.cx_reach.specs.declared.arriving.Depths.{Depths}
 use Rattle.cx_reach.specs.declared.arriving.Depths.TheVariants as depths
 use Rattle.cx_reach.specs.declared.rule.Rule.{Rule}
 use Rattle.cx_reach.specs.declared.rule.Rule.TheVariants as rules
-use Rattle.cx_reach.specs.Comes.{Comes, ComesWith, ComesFrom, AreDepths, IsArrival}
+use Rattle.cx_reach.specs.Comes.{ComesWith, AreDepths, IsArrival}
 use Rattle.cx_reach.specs.Broken.{HasBadDepth, RunsOff, HasBadOrigin, BreaksAt}
 use Rattle.cx_reach.specs.Order.{number_of}
 use Rattle.cx_rules.specs.Judged.{AreBadDepths, LeadsOff, IsBadArrival}

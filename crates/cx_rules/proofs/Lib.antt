@@ -1,2 +1,4 @@
 pub mod Judging
 pub mod Passing
+pub mod Spanning
+pub mod Regions

@@ -5,7 +5,6 @@ use Rattle.std.proofs.lemmas.Option.{slice_get_within, slice_get-get_or}
 use Rattle.cx_code.specs.declared.code.Instruction.{Instruction}
 use Rattle.cx_code.specs.declared.image.Image.{Image}
 use Rattle.cx_code.specs.declared.image.Function.{Function}
-use Rattle.cx_reach.specs.declared.rule.Rule.{Rule}
 use Rattle.cx_reach.specs.Broken.{BreaksAt}
 use Rattle.cx_rules.specs.First.{IsFirstAtPlace, KeepBefore, IsFirstInCode}
 

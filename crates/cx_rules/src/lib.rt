@@ -3,6 +3,9 @@
 
 mod code;
 mod instruction;
+mod region;
+mod spans;
 
 pub use code::code_rule;
 pub use instruction::instruction_rule;
+pub use region::region_rule;
