@@ -1,3 +1,4 @@
 pub mod Judged
 pub mod First
 pub mod Spans
+pub mod Parts

@@ -2,10 +2,12 @@
 #![tactic(auto)]
 
 mod code;
+mod function;
 mod instruction;
 mod region;
 mod spans;
 
 pub use code::code_rule;
+pub use function::function_rule;
 pub use instruction::instruction_rule;
 pub use region::region_rule;
