@@ -2,3 +2,4 @@ pub mod Judged
 pub mod First
 pub mod Spans
 pub mod Parts
+pub mod Tables

@@ -1,12 +1,10 @@
 -- This defines the first broken rule among the items of one function, and among those of the tables; it is this project's own.
-use Rattle.std.specs.Prelude.{◌≡◌, ◌⊎◌, ℕ, ◌≤◌, Option, Some, None, slice_get}
+use Rattle.std.specs.Prelude.{◌≡◌, ℕ, Option, Some, None}
 use Rattle.cx_code.specs.declared.image.Image.{Image}
-use Rattle.cx_code.specs.declared.image.TypeEntry.{TypeEntry}
-use Rattle.cx_code.specs.Rules.{IsHookAt}
 use Rattle.cx_reach.specs.declared.item.Item.{Item}
 use Rattle.cx_reach.specs.declared.item.Item.TheVariants as items
 use Rattle.cx_reach.specs.declared.rule.Rule.{Rule}
-use Rattle.cx_reach.specs.Broken.{IsThrown, IsBadDropper, IsBroken}
+use Rattle.cx_reach.specs.Broken.{IsBroken}
 use Rattle.cx_reach.specs.Order.{rank_of, IsBefore}
 
 -- the item is one of the function of an index

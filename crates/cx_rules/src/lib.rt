@@ -6,8 +6,11 @@ mod function;
 mod instruction;
 mod region;
 mod spans;
+mod tables;
+mod thrown;
 
 pub use code::code_rule;
 pub use function::function_rule;
 pub use instruction::instruction_rule;
 pub use region::region_rule;
+pub use tables::tables_rule;
