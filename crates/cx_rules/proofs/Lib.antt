@@ -4,3 +4,4 @@ pub mod Spanning
 pub mod Regions
 pub mod Lowest
 pub mod Tabled
+pub mod Accepting

@@ -1,5 +1,5 @@
 ghost use Rattle.std.specs.Prelude.{◌≡◌, ◌<◌, ◌^◌, length, Some, slice_get, IfOk};
-ghost use Rattle.cx_rules.specs.Parts.{IsOf, IsFirstAmong};
+ghost use Rattle.cx_rules.specs.Parts.{IsOf, IsFirstAmong, IsKnown};
 
 use crate::{code_rule, region_rule};
 use cx_code::{Function, Image};
@@ -23,7 +23,8 @@ pub fn function_rule(
 ) -> Result<Option<(Item, Rule)>, NoMemory>
     requires function { slice_get image.now.functions index ≡ Some function.now }
     requires few { length function.now.regions < 2 ^ 32 }
-    ensures { IfOk result (IsFirstAmong image.now (IsOf index)) }
+    ensures first { IfOk result (IsFirstAmong image.now (IsOf index)) }
+    ensures known { IfOk result (λ _. IsKnown image.now function.now) }
 {
     let arrivals = arrivals(alloc, image, function)?;
     if let Some((place, rule)) = code_rule(image, function, arrivals.as_slice()) {
