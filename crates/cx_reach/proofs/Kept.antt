@@ -17,9 +17,12 @@ use Rattle.cx_code.specs.Reached.{Origin, Plain, Cleanup, operation_at, HasIndic
 use Rattle.cx_code.specs.Rules.{IsInRange, HasType, HasPlaces, HasDepths, Encloses, IsNested, PassesArguments, IsRegionOf, HasOrder, IsEntry, IsHook, IsHookAt, HasDropper, IsValidFunction, IsValid}
 use Rattle.cx_code.specs.Storable.{IsStorable}
 use Rattle.cx_reach.specs.declared.arriving.Arrival.{Arrival}
+use Rattle.cx_reach.specs.declared.item.Item.TheVariants as items
+use Rattle.cx_reach.specs.declared.rule.Rule.{Rule}
+use Rattle.cx_reach.specs.declared.rule.Rule.TheVariants as rules
 use Rattle.cx_reach.specs.Comes.{Comes, start, target, onwards, AreArrivals}
 use Rattle.cx_reach.specs.Agreement.{EnoughComes}
-use Rattle.cx_reach.specs.Broken.{Rule, V1, V2, V3, V4, V5, V6, V7, AnInstruction, TheCount, ARegion, ADropper, TheMain, TheHandler, BreaksAt, RegionBreaks, NothingIsBroken, AreKnown, ValidWhereNothingIsBroken}
+use Rattle.cx_reach.specs.Broken.{BreaksAt, RegionBreaks, NothingIsBroken, AreKnown, ValidWhereNothingIsBroken}
 use Rattle.cx_reach.proofs.Agreeing.{agrees}
 use Rattle.cx_reach.proofs.Unbroken.{unbroken}
 
@@ -119,16 +122,16 @@ less_than depth least less = omega (arith, ints)
 
 module _ (image : Image) (none : NothingIsBroken image) (index : ℕ) (function : Function) (at : slice_get image.functions index ≡ Some function) where
   fine : (place : ℕ) (instruction : Instruction) → slice_get function.code place ≡ Some instruction → (rule : Rule) → ¬ BreaksAt image function place instruction rule
-  fine place instruction e rule broken = none (AnInstruction index place) rule (function, instruction, at, e, broken)
+  fine place instruction e rule broken = none (items.Instruction index place) rule (function, instruction, at, e, broken)
 
   region_fine : (place : ℕ) (region : Region) → slice_get function.regions place ≡ Some region → (rule : Rule) → ¬ RegionBreaks image function place region rule
-  region_fine place region e rule broken = none (ARegion index place) rule (function, region, at, e, broken)
+  region_fine place region e rule broken = none (items.Region index place) rule (function, region, at, e, broken)
 
   some_code : 0 < length function.code
-  some_code = below 0 (length function.code) (λ never. none (TheCount index) V6 (refl, (function, at, (omega (arith, at_most (length function.code) 0 never)))))
+  some_code = below 0 (length function.code) (λ never. none (items.Count index) rules.V6 (refl, (function, at, (omega (arith, at_most (length function.code) 0 never)))))
 
   has_target : (place : ℕ) (region : Region) → slice_get function.regions place ≡ Some region → region.target < length function.code
-  has_target place region e = below region.target (length function.code) (λ never. region_fine place region e V2 (at_most (length function.code) region.target never))
+  has_target place region e = below region.target (length function.code) (λ never. region_fine place region e rules.V2 (at_most (length function.code) region.target never))
 
   inside : (origin : Origin) (place : ℕ) (depth : ℤ) → Comes image function origin place depth → place < length function.code
   inside _ _ _ start = some_code
@@ -150,7 +153,7 @@ module _ (image : Image) (none : NothingIsBroken image) (index : ℕ) (function 
   enough_comes : EnoughComes image function
   enough_comes origin place depth operation here stands =
       from_operation (pos (taken_count function operation) ≤ℤ depth) place operation stands
-      (λ instruction e o. takes_at_most (taken_count function operation) depth (λ less. fine place instruction e V3 (inr (inl (depth, operation, (origin, here), o, less)))))
+      (λ instruction e o. takes_at_most (taken_count function operation) depth (λ less. fine place instruction e rules.V3 (inr (inl (depth, operation, (origin, here), o, less)))))
 
   comes : (origin : Origin) (place depth : ℕ) → IsReached image function origin place depth → Comes image function origin place (pos depth)
   comes origin place depth there = (agrees image function (inl enough_comes) origin place (pos depth)).1 (depth, refl, there)
@@ -159,30 +162,30 @@ module _ (image : Image) (none : NothingIsBroken image) (index : ℕ) (function 
   depths = record {
     one = λ a b place depth other x y.
         at_place (depth ≡ other) place (inside a place (pos depth) (comes a place depth x))
-        (λ instruction e. same_depth depth other (λ apart. fine place instruction e V3 (inl (pos depth, pos other, apart, (a, comes a place depth x), (b, comes b place other y)))));
+        (λ instruction e. same_depth depth other (λ apart. fine place instruction e rules.V3 (inl (pos depth, pos other, apart, (a, comes a place depth x), (b, comes b place other y)))));
     enough = λ origin place depth operation x stands.
         let enough = enough_comes origin place (pos depth) operation (comes origin place depth x) stands in omega (arith, ints, enough);
     shallow = λ origin place depth x.
         at_place (depth ≤ 4096) place (inside origin place (pos depth) (comes origin place depth x))
-        (λ instruction e. at_most depth 4096 (λ more. fine place instruction e V3 (inr (inr (pos depth, (origin, comes origin place depth x), less_than 4096 depth more)))));
+        (λ instruction e. at_most depth 4096 (λ more. fine place instruction e rules.V3 (inr (inr (pos depth, (origin, comes origin place depth x), less_than 4096 depth more)))));
   }
 
   region_of : (place : ℕ) (region : Region) → slice_get function.regions place ≡ Some region → IsRegionOf image function region
   region_of place region e = record {
-    some = below region.start region.end (λ never. region_fine place region e V4 (inl (at_most region.end region.start never)));
-    within = at_most region.end (length function.code) (λ more. region_fine place region e V4 (inr (inl more)));
+    some = below region.start region.end (λ never. region_fine place region e rules.V4 (inl (at_most region.end region.start never)));
+    within = at_most region.end (length function.code) (λ more. region_fine place region e rules.V4 (inr (inl more)));
     depth = λ origin covered depth operation from to x stands.
         at_most (region.depth + taken_count function operation) depth
-        (λ less. region_fine place region e V4
+        (λ less. region_fine place region e rules.V4
         (inr (inr (inl (covered, pos depth, operation, from, to, (origin, comes origin covered depth x), stands, less_than depth (region.depth + taken_count function operation) less)))));
     apart = elim (cases_lt region.target region.start) [
       | inl before ↦ inl before
-      | inr behind ↦ inr (at_most region.end region.target (λ more. region_fine place region e V4 (inr (inr (inr (inl (behind, more)))))))
+      | inr behind ↦ inr (at_most region.end region.target (λ more. region_fine place region e rules.V4 (inr (inr (inr (inl (behind, more)))))))
     ];
   }
 
   nested : IsNested function.regions
-  nested earlier later a b before x y overlaps = encloses b a (λ across. region_fine later b y V4 (inr (inr (inr (inr (earlier, a, before, x, overlaps, across))))))
+  nested earlier later a b before x y overlaps = encloses b a (λ across. region_fine later b y rules.V4 (inr (inr (inr (inr (earlier, a, before, x, overlaps, across))))))
 
   module _ (arrivals : List Arrival) (are : AreArrivals image function arrivals) where
     from_cleanup : (place : ℕ) (instruction : Instruction) → slice_get function.code place ≡ Some instruction → operation_of instruction ≡ Some does.Resume → (depth : ℕ) × IsReached image function Cleanup place depth
@@ -193,7 +196,7 @@ module _ (image : Image) (none : NothingIsBroken image) (index : ℕ) (function 
             let (depth, comes_so) = (are.exact place arrival here).cleanup.0 is in
             let (operands, equal, reached) = (agrees image function (inl enough_comes) Cleanup place depth).0 comes_so in
             (operands, reached)
-        | inr isnt ↦ absurd (fine place instruction e V6 (inr (inr (inl (o, λ so. let is = (are.exact place arrival here).cleanup.1 so in cc)))))
+        | inr isnt ↦ absurd (fine place instruction e rules.V6 (inr (inr (inl (o, λ so. let is = (are.exact place arrival here).cleanup.1 so in cc)))))
       ]
     ]
 
@@ -203,25 +206,25 @@ module _ (image : Image) (none : NothingIsBroken image) (index : ℕ) (function 
       no_end = λ origin place depth operation next x stands has follows.
           from_operation (next < length function.code) place operation stands
           (λ instruction e o. below next (length function.code)
-          (λ never. fine place instruction e V6 (inl (pos depth, operation, next, (origin, comes origin place depth x), o, has, follows, at_most (length function.code) next never))));
+          (λ never. fine place instruction e rules.V6 (inl (pos depth, operation, next, (origin, comes origin place depth x), o, has, follows, at_most (length function.code) next never))));
       one_origin = λ place depth other x y.
           at_place ⊥ place (inside Plain place (pos depth) (comes Plain place depth x))
-          (λ instruction e. fine place instruction e V6 (inr (inl ((pos depth, comes Plain place depth x), (pos other, comes Cleanup place other y)))));
+          (λ instruction e. fine place instruction e rules.V6 (inr (inl ((pos depth, comes Plain place depth x), (pos other, comes Cleanup place other y)))));
       resumes = λ place stands. from_operation ((depth : ℕ) × IsReached image function Cleanup place depth) place does.Resume stands (from_cleanup place);
       returns = λ place depth stands x.
-          from_operation ⊥ place does.Return stands (λ instruction e o. fine place instruction e V6 (inr (inr (inr (o, (pos depth, comes Cleanup place depth x))))));
+          from_operation ⊥ place does.Return stands (λ instruction e o. fine place instruction e rules.V6 (inr (inr (inr (o, (pos depth, comes Cleanup place depth x))))));
     }
 
     pub valid_function : IsValidFunction image function
     valid_function = record {
-      in_range = all_of (λ i. IsInRange image (operation_of i)) function.code (λ place i e. in_range image (operation_of i) (fine place i e V1));
-      has_types = all_of (HasType image) function.regions (λ place r e. has_type image r (region_fine place r e V1));
-      has_places = all_of (λ i. HasPlaces function (operation_of i)) function.code (λ place i e. has_places function (operation_of i) (fine place i e V2));
+      in_range = all_of (λ i. IsInRange image (operation_of i)) function.code (λ place i e. in_range image (operation_of i) (fine place i e rules.V1));
+      has_types = all_of (HasType image) function.regions (λ place r e. has_type image r (region_fine place r e rules.V1));
+      has_places = all_of (λ i. HasPlaces function (operation_of i)) function.code (λ place i e. has_places function (operation_of i) (fine place i e rules.V2));
       has_targets = all_of (λ (r : Region). r.target < length function.code) function.regions has_target;
       has_depths = depths;
       is_nested = nested;
       each_region = all_of (IsRegionOf image function) function.regions region_of;
-      passes = all_of (λ i. PassesArguments image (operation_of i)) function.code (λ place i e. passes image (operation_of i) (fine place i e V5));
+      passes = all_of (λ i. PassesArguments image (operation_of i)) function.code (λ place i e. passes image (operation_of i) (fine place i e rules.V5));
       has_order = order;
     }
 
@@ -232,7 +235,7 @@ module _ (image : Image) (none : NothingIsBroken image) (index : ℕ) (function 
   entry_drops type throws None is = tt
   entry_drops type throws (Some entry) is =
       at_most 1 entry.dropper
-      (λ less. none (ADropper type) V7 (refl, (entry, is, inr ((omega (arith, less)), (index, function, place, instruction, at, e, throws)))))
+      (λ less. none (items.Dropper type) rules.V7 (refl, (entry, is, inr ((omega (arith, less)), (index, function, place, instruction, at, e, throws)))))
 
   drops : (found : Option Operation) → operation_of instruction ≡ found → HasDropper image found
   drops (Some (does.Throw type)) is = entry_drops type is (slice_get image.types type) refl
@@ -244,10 +247,10 @@ valid image storable known none = record {
   storable = storable;
   each_function = all_of (IsValidFunction image) image.functions
       (λ index function at. let (arrivals, are) = known index function at in valid_function image none index function at arrivals are);
-  main = is_entry (slice_get image.functions image.main) (λ broken. none TheMain V7 (refl, broken));
-  handler = is_hook_at image image.handler (λ broken. none TheHandler V7 (refl, broken));
+  main = is_entry (slice_get image.functions image.main) (λ broken. none items.Main rules.V7 (refl, broken));
+  handler = is_hook_at image image.handler (λ broken. none items.Handler rules.V7 (refl, broken));
   droppers = all_of (λ (entry : TypeEntry). IsHookAt image entry.dropper) image.types
-      (λ type entry e. is_hook_at image entry.dropper (λ broken. none (ADropper type) V7 (refl, (entry, e, inl broken))));
+      (λ type entry e. is_hook_at image entry.dropper (λ broken. none (items.Dropper type) rules.V7 (refl, (entry, e, inl broken))));
   thrown = all_of (λ (function : Function). All (λ i. HasDropper image (operation_of i)) function.code) image.functions
       (λ index function at. all_of (λ i. HasDropper image (operation_of i)) function.code (λ place i e. drops image none index function at place i e (operation_of i) refl));
 }

@@ -13,8 +13,11 @@ use Rattle.cx_code.specs.declared.operation.Operation.TheVariants as does
 use Rattle.cx_code.specs.Operation.{operation_of}
 use Rattle.cx_code.specs.Reached.{Origin, Plain, Cleanup, operation_at, taken_count, IsReached}
 use Rattle.cx_code.specs.Rules.{IsInRange, HasType, HasPlaces, PassesArguments, IsRegionOf, IsHookAt, HasDropper, IsValidFunction, IsValid}
+use Rattle.cx_reach.specs.declared.item.Item.TheVariants as items
+use Rattle.cx_reach.specs.declared.rule.Rule.{Rule}
+use Rattle.cx_reach.specs.declared.rule.Rule.TheVariants as rules
 use Rattle.cx_reach.specs.Comes.{Comes}
-use Rattle.cx_reach.specs.Broken.{Rule, V1, V2, V3, V4, V5, V6, V7, AnInstruction, TheCount, ARegion, ADropper, TheMain, TheHandler, HasBadDepth, RunsOff, HasBadOrigin, BreaksAt, IsBadRegion, RegionBreaks, IsBadDropper, NothingIsBroken}
+use Rattle.cx_reach.specs.Broken.{HasBadDepth, RunsOff, HasBadOrigin, BreaksAt, IsBadRegion, RegionBreaks, IsBadDropper, NothingIsBroken}
 use Rattle.cx_reach.proofs.Grown.{at_all}
 use Rattle.cx_reach.proofs.Agreeing.{agrees}
 
@@ -63,14 +66,14 @@ module _ (image : Image) (function : Function) (valid : IsValidFunction image fu
       valid.has_order.returns place m (operation_stands function place instruction does.Return e o) at_m
 
   keeps_at : (place : ℕ) (instruction : Instruction) → slice_get function.code place ≡ Some instruction → (rule : Rule) → BreaksAt image function place instruction rule → ⊥
-  keeps_at place instruction e V1 broken = broken (at_all (λ i. IsInRange image (operation_of i)) function.code place instruction valid.in_range e)
-  keeps_at place instruction e V2 broken = broken (at_all (λ i. HasPlaces function (operation_of i)) function.code place instruction valid.has_places e)
-  keeps_at place instruction e V3 broken = good_depth place instruction e broken
-  keeps_at place instruction e V4 broken = broken
-  keeps_at place instruction e V5 broken = broken (at_all (λ i. PassesArguments image (operation_of i)) function.code place instruction valid.passes e)
-  keeps_at place instruction e V6 (inl off) = stays_on place instruction e off
-  keeps_at place instruction e V6 (inr origin) = good_origin place instruction e origin
-  keeps_at place instruction e V7 broken = broken
+  keeps_at place instruction e rules.V1 broken = broken (at_all (λ i. IsInRange image (operation_of i)) function.code place instruction valid.in_range e)
+  keeps_at place instruction e rules.V2 broken = broken (at_all (λ i. HasPlaces function (operation_of i)) function.code place instruction valid.has_places e)
+  keeps_at place instruction e rules.V3 broken = good_depth place instruction e broken
+  keeps_at place instruction e rules.V4 broken = broken
+  keeps_at place instruction e rules.V5 broken = broken (at_all (λ i. PassesArguments image (operation_of i)) function.code place instruction valid.passes e)
+  keeps_at place instruction e rules.V6 (inl off) = stays_on place instruction e off
+  keeps_at place instruction e rules.V6 (inr origin) = good_origin place instruction e origin
+  keeps_at place instruction e rules.V7 broken = broken
 
   good_region : (index : ℕ) (region : Region) → slice_get function.regions index ≡ Some region → IsRegionOf image function region → IsBadRegion image function index region → ⊥
   good_region index region e good (inl empty) = omega (arith, good.some, empty)
@@ -82,13 +85,13 @@ module _ (image : Image) (function : Function) (valid : IsValidFunction image fu
   good_region index region e good (inr (inr (inr (inr (earlier, other, before, at, overlaps, across))))) = across (valid.is_nested earlier index other region before at e overlaps)
 
   region_keeps : (index : ℕ) (region : Region) → slice_get function.regions index ≡ Some region → (rule : Rule) → RegionBreaks image function index region rule → ⊥
-  region_keeps index region e V1 broken = broken (at_all (HasType image) function.regions index region valid.has_types e)
-  region_keeps index region e V2 past = let inside = at_all (λ (r : Region). r.target < length function.code) function.regions index region valid.has_targets e in omega (arith, inside, past)
-  region_keeps index region e V3 broken = broken
-  region_keeps index region e V4 broken = good_region index region e (at_all (IsRegionOf image function) function.regions index region valid.each_region e) broken
-  region_keeps index region e V5 broken = broken
-  region_keeps index region e V6 broken = broken
-  region_keeps index region e V7 broken = broken
+  region_keeps index region e rules.V1 broken = broken (at_all (HasType image) function.regions index region valid.has_types e)
+  region_keeps index region e rules.V2 past = let inside = at_all (λ (r : Region). r.target < length function.code) function.regions index region valid.has_targets e in omega (arith, inside, past)
+  region_keeps index region e rules.V3 broken = broken
+  region_keeps index region e rules.V4 broken = good_region index region e (at_all (IsRegionOf image function) function.regions index region valid.each_region e) broken
+  region_keeps index region e rules.V5 broken = broken
+  region_keeps index region e rules.V6 broken = broken
+  region_keeps index region e rules.V7 broken = broken
 
 module _ (image : Image) (valid : IsValid image) where
   its_valid : (index : ℕ) (function : Function) → slice_get image.functions index ≡ Some function → IsValidFunction image function
@@ -103,9 +106,9 @@ module _ (image : Image) (valid : IsValid image) where
       omega (arith, some, zero)
 
   pub unbroken : NothingIsBroken image
-  unbroken (AnInstruction index place) rule (function, instruction, at, e, broken) = keeps_at image function (its_valid index function at) place instruction e rule broken
-  unbroken (TheCount index) rule (six, (function, at, none)) = omega (arith, (its_valid index function at).has_order.some_code, none)
-  unbroken (ARegion index place) rule (function, region, at, e, broken) = region_keeps image function (its_valid index function at) place region e rule broken
-  unbroken (ADropper type) rule (seven, (entry, e, broken)) = good_dropper type entry e broken
-  unbroken TheMain rule (seven, broken) = broken valid.main
-  unbroken TheHandler rule (seven, broken) = broken valid.handler
+  unbroken (items.Instruction index place) rule (function, instruction, at, e, broken) = keeps_at image function (its_valid index function at) place instruction e rule broken
+  unbroken (items.Count index) rule (six, (function, at, none)) = omega (arith, (its_valid index function at).has_order.some_code, none)
+  unbroken (items.Region index place) rule (function, region, at, e, broken) = region_keeps image function (its_valid index function at) place region e rule broken
+  unbroken (items.Dropper type) rule (seven, (entry, e, broken)) = good_dropper type entry e broken
+  unbroken items.Main rule (seven, broken) = broken valid.main
+  unbroken items.Handler rule (seven, broken) = broken valid.handler

@@ -12,25 +12,11 @@ use Rattle.cx_code.specs.Reached.{Plain, Cleanup, operation_at, HasIndices, take
 use Rattle.cx_code.specs.Rules.{IsInRange, HasType, HasPlaces, Overlaps, Encloses, PassesArguments, IsEntry, IsHookAt, IsValid}
 use Rattle.cx_code.specs.Storable.{IsStorable}
 use Rattle.cx_reach.specs.declared.arriving.Arrival.{Arrival}
+use Rattle.cx_reach.specs.declared.item.Item.{Item}
+use Rattle.cx_reach.specs.declared.item.Item.TheVariants as items
+use Rattle.cx_reach.specs.declared.rule.Rule.{Rule}
+use Rattle.cx_reach.specs.declared.rule.Rule.TheVariants as rules
 use Rattle.cx_reach.specs.Comes.{ComesWith, ComesFrom, SeveralCome, AreArrivals}
-
-pub data Rule : Type 0 where
-  V1 : Rule
-  V2 : Rule
-  V3 : Rule
-  V4 : Rule
-  V5 : Rule
-  V6 : Rule
-  V7 : Rule
-
--- what is judged: of each function its instructions, the count of them and its regions; then each type's dropper, `main` and the handler
-pub data Item : Type 0 where
-  AnInstruction : (function place : ℕ) → Item
-  TheCount : (function : ℕ) → Item
-  ARegion : (function index : ℕ) → Item
-  ADropper : (type : ℕ) → Item
-  TheMain : Item
-  TheHandler : Item
 
 -- ---- an instruction
 
@@ -55,13 +41,13 @@ HasBadOrigin image function place instruction =
     ⊎ ((operation_of instruction ≡ Some does.Return) × ComesFrom image function Cleanup place))
 
 abbrev pub BreaksAt : Image → Function → ℕ → Instruction → Rule → Type 0
-BreaksAt image function place instruction V1 = ¬ IsInRange image (operation_of instruction)
-BreaksAt image function place instruction V2 = ¬ HasPlaces function (operation_of instruction)
-BreaksAt image function place instruction V3 = HasBadDepth image function place instruction
-BreaksAt image function place instruction V4 = ⊥
-BreaksAt image function place instruction V5 = ¬ PassesArguments image (operation_of instruction)
-BreaksAt image function place instruction V6 = RunsOff image function place instruction ⊎ HasBadOrigin image function place instruction
-BreaksAt image function place instruction V7 = ⊥
+BreaksAt image function place instruction rules.V1 = ¬ IsInRange image (operation_of instruction)
+BreaksAt image function place instruction rules.V2 = ¬ HasPlaces function (operation_of instruction)
+BreaksAt image function place instruction rules.V3 = HasBadDepth image function place instruction
+BreaksAt image function place instruction rules.V4 = ⊥
+BreaksAt image function place instruction rules.V5 = ¬ PassesArguments image (operation_of instruction)
+BreaksAt image function place instruction rules.V6 = RunsOff image function place instruction ⊎ HasBadOrigin image function place instruction
+BreaksAt image function place instruction rules.V7 = ⊥
 
 -- ---- a region
 
@@ -84,13 +70,13 @@ IsBadRegion image function index region =
     ⊎ CutsAcross function.regions index region)))
 
 abbrev pub RegionBreaks : Image → Function → ℕ → Region → Rule → Type 0
-RegionBreaks image function index region V1 = ¬ HasType image region
-RegionBreaks image function index region V2 = length function.code ≤ region.target
-RegionBreaks image function index region V3 = ⊥
-RegionBreaks image function index region V4 = IsBadRegion image function index region
-RegionBreaks image function index region V5 = ⊥
-RegionBreaks image function index region V6 = ⊥
-RegionBreaks image function index region V7 = ⊥
+RegionBreaks image function index region rules.V1 = ¬ HasType image region
+RegionBreaks image function index region rules.V2 = length function.code ≤ region.target
+RegionBreaks image function index region rules.V3 = ⊥
+RegionBreaks image function index region rules.V4 = IsBadRegion image function index region
+RegionBreaks image function index region rules.V5 = ⊥
+RegionBreaks image function index region rules.V6 = ⊥
+RegionBreaks image function index region rules.V7 = ⊥
 
 -- ---- the tables
 
@@ -106,14 +92,14 @@ IsBadDropper image type entry = (¬ IsHookAt image entry.dropper) ⊎ ((entry.dr
 -- ---- an item
 
 abbrev pub IsBroken : Image → Item → Rule → Type 0
-IsBroken image (AnInstruction function place) rule =
+IsBroken image (items.Instruction function place) rule =
     (its : Function) × (instruction : Instruction) × (slice_get image.functions function ≡ Some its) × (slice_get its.code place ≡ Some instruction) × BreaksAt image its place instruction rule
-IsBroken image (TheCount function) rule = (rule ≡ V6) × ((its : Function) × (slice_get image.functions function ≡ Some its) × (length its.code ≡ 0))
-IsBroken image (ARegion function index) rule =
+IsBroken image (items.Count function) rule = (rule ≡ rules.V6) × ((its : Function) × (slice_get image.functions function ≡ Some its) × (length its.code ≡ 0))
+IsBroken image (items.Region function index) rule =
     (its : Function) × (region : Region) × (slice_get image.functions function ≡ Some its) × (slice_get its.regions index ≡ Some region) × RegionBreaks image its index region rule
-IsBroken image (ADropper type) rule = (rule ≡ V7) × ((entry : TypeEntry) × (slice_get image.types type ≡ Some entry) × IsBadDropper image type entry)
-IsBroken image TheMain rule = (rule ≡ V7) × ¬ IfSome (slice_get image.functions image.main) IsEntry
-IsBroken image TheHandler rule = (rule ≡ V7) × ¬ IsHookAt image image.handler
+IsBroken image (items.Dropper type) rule = (rule ≡ rules.V7) × ((entry : TypeEntry) × (slice_get image.types type ≡ Some entry) × IsBadDropper image type entry)
+IsBroken image items.Main rule = (rule ≡ rules.V7) × ¬ IfSome (slice_get image.functions image.main) IsEntry
+IsBroken image items.Handler rule = (rule ≡ rules.V7) × ¬ IsHookAt image image.handler
 
 abbrev pub NothingIsBroken : Image → Type 0
 NothingIsBroken image = (item : Item) (rule : Rule) → ¬ IsBroken image item rule

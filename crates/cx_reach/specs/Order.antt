@@ -1,25 +1,29 @@
 -- This defines in which order the items of an image are judged, and which broken rule is the first; it is this project's own.
 use Rattle.std.specs.Prelude.{◌≡◌, ◌⊎◌, ℕ, ◌<◌, List, [], ◌∷◌}
 use Rattle.cx_code.specs.declared.image.Image.{Image}
-use Rattle.cx_reach.specs.Broken.{Rule, V1, V2, V3, V4, V5, V6, V7, Item, AnInstruction, TheCount, ARegion, ADropper, TheMain, TheHandler, IsBroken}
+use Rattle.cx_reach.specs.declared.item.Item.{Item}
+use Rattle.cx_reach.specs.declared.item.Item.TheVariants as items
+use Rattle.cx_reach.specs.declared.rule.Rule.{Rule}
+use Rattle.cx_reach.specs.declared.rule.Rule.TheVariants as rules
+use Rattle.cx_reach.specs.Broken.{IsBroken}
 
 abbrev pub number_of : Rule → ℕ
-number_of V1 = 1
-number_of V2 = 2
-number_of V3 = 3
-number_of V4 = 4
-number_of V5 = 5
-number_of V6 = 6
-number_of V7 = 7
+number_of rules.V1 = 1
+number_of rules.V2 = 2
+number_of rules.V3 = 3
+number_of rules.V4 = 4
+number_of rules.V5 = 5
+number_of rules.V6 = 6
+number_of rules.V7 = 7
 
 -- by function, its instructions, their count and its regions; then the droppers, `main` and the handler; of one item by the rule's number
 abbrev pub rank_of : Item → Rule → List ℕ
-rank_of (AnInstruction function place) rule = 0 ∷ function ∷ 0 ∷ place ∷ number_of rule ∷ []
-rank_of (TheCount function) rule = 0 ∷ function ∷ 1 ∷ 0 ∷ number_of rule ∷ []
-rank_of (ARegion function index) rule = 0 ∷ function ∷ 2 ∷ index ∷ number_of rule ∷ []
-rank_of (ADropper type) rule = 1 ∷ 0 ∷ 0 ∷ type ∷ number_of rule ∷ []
-rank_of TheMain rule = 1 ∷ 0 ∷ 1 ∷ 0 ∷ number_of rule ∷ []
-rank_of TheHandler rule = 1 ∷ 0 ∷ 2 ∷ 0 ∷ number_of rule ∷ []
+rank_of (items.Instruction function place) rule = 0 ∷ function ∷ 0 ∷ place ∷ number_of rule ∷ []
+rank_of (items.Count function) rule = 0 ∷ function ∷ 1 ∷ 0 ∷ number_of rule ∷ []
+rank_of (items.Region function index) rule = 0 ∷ function ∷ 2 ∷ index ∷ number_of rule ∷ []
+rank_of (items.Dropper type) rule = 1 ∷ 0 ∷ 0 ∷ type ∷ number_of rule ∷ []
+rank_of items.Main rule = 1 ∷ 0 ∷ 1 ∷ 0 ∷ number_of rule ∷ []
+rank_of items.Handler rule = 1 ∷ 0 ∷ 2 ∷ 0 ∷ number_of rule ∷ []
 
 -- the first number that differs is less
 abbrev pub IsBefore : List ℕ → List ℕ → Type 0

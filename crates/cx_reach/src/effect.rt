@@ -4,7 +4,7 @@ ghost use Rattle.cx_reach.specs.Effects.{LeadsTo, IsEffectAt, IsEffect};
 
 use cx_code::{Function, Image, Operation};
 
-/// Where the code may go on behind an instruction.
+/// Where the code may go on behind an instruction. (This project's own.)
 #[derive(Clone, Copy, Debug)]
 pub struct Nexts {
     /// At the place behind it.
@@ -41,8 +41,9 @@ pub fn effect_at(image: &Image, function: &Function, place: usize) -> Option<Eff
     })
 }
 
-/// Where the code may go on behind an instruction at a place.
-fn nexts_of(operation: Operation, place: usize) -> Nexts
+/// Where the code may go on behind an instruction at a place: both where it is a jump on a condition.
+/// Whether the code has these places isn't asked. (This project's own.)
+pub fn nexts_of(operation: Operation, place: usize) -> Nexts
     requires { place + 1 < 2 ^ 64 }
     ensures { (next : ℕ) → Follows operation place next ↔ LeadsTo result next }
 {
@@ -71,8 +72,9 @@ fn nexts_of(operation: Operation, place: usize) -> Nexts
     }
 }
 
-/// The operands that an instruction takes.
-fn taken(function: &Function, operation: Operation) -> u32
+/// How many operands an instruction of a function takes: for a call as many as it passes, for
+/// `return` the function's result, where it has one. (This project's own.)
+pub fn taken(function: &Function, operation: Operation) -> u32
     ensures { result ≡ taken_count function.now operation }
 {
     match operation {
@@ -166,8 +168,9 @@ fn given(image: &Image, operation: Operation) -> u32
     }
 }
 
-/// Each index of an instruction is in its table.
-fn has_indices(image: &Image, operation: Operation) -> bool
+/// Whether each index of an instruction is in its table of the image: that of a function, a global, a
+/// text, an assertion or a type. (This project's own.)
+pub fn has_indices(image: &Image, operation: Operation) -> bool
     ensures { IsTrue result ↔ HasIndices image.now operation }
 {
     match operation {

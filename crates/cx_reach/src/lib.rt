@@ -2,11 +2,15 @@
 #![tactic(auto)]
 
 mod arriving;
-mod effect;
+pub mod effect;
+mod item;
 pub mod laws;
+mod rule;
 mod search;
 #[cfg(test)]
 mod tests;
 
 pub use arriving::{Arrival, Depths};
+pub use item::Item;
+pub use rule::Rule;
 pub use search::arrivals;

@@ -1,0 +1,5 @@
+pub mod Judged
+pub mod First
+pub mod Spans
+pub mod Parts
+pub mod Tables
