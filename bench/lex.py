@@ -7,14 +7,11 @@ time of five rounds, taken in turn, and the ratios. Needs rt and g++; builds onc
 
 usage: bench/lex.py [FOLDER]     FOLDER keeps the build for the next run
 """
-import pathlib
-import shutil
 import subprocess
-import sys
-import tempfile
 import time
 
-TOP = pathlib.Path(__file__).resolve().parent.parent
+from scratch import copy_crates, folder_given
+
 PROGRAM = """#![tactic(auto)]
 
 use cx_lexer::lex;
@@ -54,14 +51,11 @@ def text_of(size):
 
 
 def build(folder):
-    for crate in ("cx_syntax", "cx_lexer"):
-        target = folder / "crates" / crate
-        if not target.exists():
-            shutil.copytree(TOP / "crates" / crate, target, ignore=shutil.ignore_patterns("out"))
+    lines = copy_crates(folder, "cx_lexer")
     source = folder / "crates" / "tokens" / "src"
     source.mkdir(parents=True, exist_ok=True)
     (source / "main.rt").write_text(PROGRAM)
-    (folder / "crates.txt").write_text("cx_syntax:\ncx_lexer: cx_syntax thiserror\ntokens: cx_lexer cx_syntax\n")
+    (folder / "crates.txt").write_text("\n".join(lines + ["tokens: cx_lexer cx_syntax"]) + "\n")
     program = source.parent / "out" / "tokens"
     if not program.exists():
         subprocess.run(["rt", "all", "check"], cwd=folder, check=True, stdout=subprocess.DEVNULL)
@@ -76,10 +70,7 @@ def seconds(command, text):
 
 
 def main():
-    kept = len(sys.argv) > 1
-    folder = pathlib.Path(sys.argv[1] if kept else tempfile.mkdtemp()).resolve()
-    folder.mkdir(parents=True, exist_ok=True)
-    try:
+    with folder_given() as folder:
         program = build(folder)
         one, two = text_of(1_000_000), text_of(2_000_000)
         rows = {
@@ -96,9 +87,6 @@ def main():
         print(f"2 MB / 1 MB  {least['tokens 2 MB'] / base:8.2f}")
         print(f"/ wc -w      {base / least['wc -w 1 MB']:8.2f}")
         print(f"/ g++        {base / least['g++ 1 MB']:8.2f}")
-    finally:
-        if not kept:
-            shutil.rmtree(folder)
 
 
 main()

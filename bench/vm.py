@@ -9,16 +9,14 @@ and lua5.4 for the last column (`apt-get install -y lua5.4`). It builds once, wh
 
 usage: bench/vm.py [FOLDER]     FOLDER keeps the build, of the crates as they are then, for the next run
 """
-import pathlib
 import re
 import resource
 import shutil
 import subprocess
 import sys
-import tempfile
 
-TOP = pathlib.Path(__file__).resolve().parent.parent
-CRATES = "cx_outside cx_code cx_unwind cx_arithmetic cx_sound cx_image cx_violation cx_frame cx_machine".split()
+from scratch import TOP, copy_crates, folder_given
+
 ROUNDS = 5
 SHORT = 10  # the short run has so many times fewer steps
 
@@ -152,10 +150,7 @@ def image_text(case):
 
 def build(folder):
     """The scratch program: cx_machine_tests with a `main` in the place of its tests, and without its worked rows."""
-    for crate in CRATES + ["cx_machine_tests"]:
-        target = folder / "crates" / crate
-        if not target.exists():
-            shutil.copytree(TOP / "crates" / crate, target, ignore=shutil.ignore_patterns("out", "must-fail", "rows", "rows.antt"))
+    lines = copy_crates(folder, "cx_machine_tests", "must-fail", "rows", "rows.antt")
     scratch = folder / "crates" / "cx_machine_tests"
     for name in ("lib.rt", "tests.rt"):
         (scratch / "src" / name).unlink(missing_ok=True)
@@ -163,9 +158,7 @@ def build(folder):
     lemmas.write_text(lemmas.read_text().replace("mod rows\n", ""))
     (scratch / "src" / "main.rt").write_text(main_file())
     (scratch / "src" / "programs.rt").write_text(programs())
-    lines = (TOP / "crates.txt").read_text().splitlines()
-    wanted = [line for line in lines if line.split(":")[0] in CRATES + ["cx_machine_tests"]]
-    (folder / "crates.txt").write_text("\n".join(wanted) + "\n")
+    (folder / "crates.txt").write_text("\n".join(lines) + "\n")
     program = scratch / "out" / "cx_machine_tests"
     if not program.exists():
         subprocess.run(["rt", "all", "check"], cwd=folder, check=True, stdout=subprocess.DEVNULL)
@@ -213,10 +206,7 @@ def measured(folder, case, machine, c64, c128):
 
 
 def main():
-    kept = len(sys.argv) > 1
-    folder = pathlib.Path(sys.argv[1] if kept else tempfile.mkdtemp()).resolve()
-    folder.mkdir(parents=True, exist_ok=True)
-    try:
+    with folder_given() as folder:
         machine = build(folder)
         c64 = build_c(folder, "vm64", "long long")
         c128 = build_c(folder, "vm128", "__int128")
@@ -228,9 +218,6 @@ def main():
             rate = case.steps * (1 - 1 / SHORT) / times["cx"] / 1e6
             ratios = [f"{times['cx'] / times[name]:10.2f}" if name in times else "" for name in ("C 64", "C 128", "Lua")]
             print(f"{case.name:10}{rate:10.0f}" + "".join(ratios))
-    finally:
-        if not kept:
-            shutil.rmtree(folder)
 
 
 main()
