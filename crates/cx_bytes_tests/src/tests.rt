@@ -95,3 +95,15 @@ fn a_changed_image_is_refused_at_its_first_fault(rt: HostRuntime) -> Result<(), 
     }
     Ok(())
 }
+
+#[test]
+fn a_byte_after_the_last_field_is_a_fault(rt: HostRuntime) -> Result<(), Fail> {
+    let alloc = rt.alloc();
+    let mut image = Text::copy_of(alloc, IMAGE)?;
+    image.push(0)?;
+    assert_eq!(rt; image_fault(alloc, image.bytes()), bad(77, Why::Trailing));
+    let mut object = Text::copy_of(alloc, OBJECT)?;
+    object.push(0)?;
+    assert_eq!(rt; object_fault(alloc, object.bytes()), bad(98, Why::Trailing));
+    Ok(())
+}

@@ -1,2 +1,3 @@
 pub mod ImageFormat
 mod Sample
+pub mod Places

@@ -4,6 +4,7 @@ ghost use Rattle.cx_code.specs.Spelling.{image_spelling};
 ghost use Rattle.cx_code.specs.Storable.{IsStorable};
 ghost use Rattle.cx_image.specs.Reading.{read_image};
 ghost use Rattle.cx_image.specs.Words.{ImageOfWords};
+ghost use Rattle.cx_image.specs.Places.{ItemsStand};
 
 /// Reading what spells an image that can be stored gives that image. Takes no memory. (This project's own.)
 pub fn what_is_spelled_is_read()
@@ -18,4 +19,10 @@ pub fn what_is_read_is_spelled()
 /// Bytes spell one image at most. Takes no memory. (This project's own.)
 pub fn bytes_spell_one_image()
     ensures { (image other : Image) → IsStorable image → ImageOfWords image → IsStorable other → ImageOfWords other → image_spelling image ≡ image_spelling other → image ≡ other }
+{}
+
+/// Each instruction, count of instructions, region, dropper of a type and the fields `main` and handler of an image stand in
+/// its bytes at the place that a broken rule is told with. Takes no memory. (This project's own.)
+pub fn items_stand()
+    ensures { ItemsStand }
 {}

@@ -1,5 +1,5 @@
 ghost use Rattle.std.specs.Prelude.{◌≡◌, [], ◌∷◌, IfOk, codes, true, false};
-ghost use Rattle.cx_code.specs.Rules.{IsValid};
+ghost use Rattle.cx_code.specs.Storable.{IsStorable};
 
 use super::*;
 use cx_code::{
@@ -74,7 +74,7 @@ fn hook(alloc: Global) -> Result<Function, NoMemory>
 
 /// An image with one of each thing that an image has.
 fn sample(alloc: Global) -> Result<Image, NoMemory>
-    ensures { IfOk result IsValid }
+    ensures { IfOk result IsStorable }
 {
     let mut texts = Items::new(alloc);
     texts.push(Text::copy_of(alloc, b"a")?)?;
@@ -116,8 +116,7 @@ fn sample(alloc: Global) -> Result<Image, NoMemory>
 #[test]
 fn an_image_has_the_bytes_of_the_format(rt: HostRuntime) -> Result<(), Fail> {
     let alloc = rt.alloc();
-    let valid = Valid::new(sample(alloc)?);
-    let bytes = encode(alloc, valid.image())?;
+    let bytes = encode(alloc, &sample(alloc)?)?;
     let want: &[u8] = b"CXIM\x01\
         \x00\x00\x00\x01\x00\x00\x00\x01a\
         \x00\x00\x00\x01\x00\x00\x00\x01E\x00\x00\x01\x00\x00\x00\x00\x02\
@@ -133,5 +132,13 @@ fn an_image_has_the_bytes_of_the_format(rt: HostRuntime) -> Result<(), Fail> {
         \x00\x00\x00\x04\x00\x00\x00\x05\
         \x00\x00\x00\x00\x00\x00\x00\x02";
     assert!(rt; bytes.bytes() == want);
+    Ok(())
+}
+
+#[test]
+fn an_image_that_keeps_the_rules_is_accepted(rt: HostRuntime) -> Result<(), Fail> {
+    let alloc = rt.alloc();
+    let valid = verify(alloc, sample(alloc)?)?;
+    assert!(rt; valid.image().handler == 2);
     Ok(())
 }

@@ -5,7 +5,7 @@ ghost use Rattle.cx_machine_tests.specs.Named.{called, dropper, image_of};
 use cx_code::{
     Assertion, AssertionKind, Function, GlobalEntry, Image, Initial, Instruction, Region, TypeEntry,
 };
-use cx_image::Valid;
+use cx_image::{Valid, verify};
 use cx_outside::{Items, NoMemory, Text};
 use std::alloc::Global;
 
@@ -143,5 +143,8 @@ pub fn valid(
     requires { IsTrue (is_valid (image_of (called main.parameters main.slots main.result main.code.now main.regions.now ∷ dropper ∷ called last.parameters last.slots last.result last.code.now last.regions.now ∷ []) handler other)) }
     ensures { IfOk result (λ image. image ≡ image_of (called main.entry.parameters main.entry.slots main.entry.result main.entry.code.now main.entry.regions.now ∷ dropper ∷ called last.entry.parameters last.entry.slots last.entry.result last.entry.code.now last.entry.regions.now ∷ []) handler other) }
 {
-    Ok(Valid::new(image(alloc, main, last, handler, other)?))
+    match verify(alloc, image(alloc, main, last, handler, other)?) {
+        Ok(valid) => Ok(valid),
+        Err(_) => Err(NoMemory),
+    }
 }

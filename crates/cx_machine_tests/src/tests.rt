@@ -3,9 +3,9 @@ use crate::programs::{
     through_frames, too_deep, violation,
 };
 use cx_code::{BlockMap, DetectionMode, Ending, Event, Kind, Semantic, Verdict};
-use cx_image::Valid;
+use cx_image::{Valid, decode, encode, verify};
 use cx_machine::run;
-use cx_outside::{MemSink, MemSource, NoMemory};
+use cx_outside::{MemSink, MemSource};
 use std::alloc::Global;
 use std::test::Fail;
 
@@ -19,14 +19,23 @@ struct Want<'a> {
     err: &'a [u8],
 }
 
-/// Whether a run of an image on an input, in at most `limit` steps, comes to what is wanted.
+/// An image as it is read back from its file.
+fn read_back(alloc: Global, image: &Valid) -> Result<Valid, Fail> {
+    let bytes = encode(alloc, image.image())?;
+    let read = decode(alloc, bytes.bytes())?;
+    Ok(verify(alloc, read)?)
+}
+
+/// Whether a run of an image that was written to its file and read back, on an input, in at most `limit` steps, comes to
+/// what is wanted.
 fn comes_to(
     alloc: Global,
     image: Valid,
     input: &[u8],
     limit: u32,
     want: Want<'_>,
-) -> Result<bool, NoMemory> {
+) -> Result<bool, Fail> {
+    let image = read_back(alloc, &image)?;
     let mut memory = BlockMap::new(alloc);
     let mut source = MemSource::new(alloc, input, &[])?;
     let mut out = MemSink::new(alloc, &[])?;
@@ -50,7 +59,7 @@ fn comes_to(
 }
 
 /// Counts to 100: four instructions, 100 turns of 12, five of the last test, and three.
-fn counting_ends(alloc: Global) -> Result<bool, NoMemory> {
+fn counting_ends(alloc: Global) -> Result<bool, Fail> {
     let want = Want {
         steps: 1212,
         ending: Ending::Returned(100),
@@ -61,7 +70,7 @@ fn counting_ends(alloc: Global) -> Result<bool, NoMemory> {
     comes_to(alloc, counting(alloc)?, b"", 100_000, want)
 }
 
-fn sum_ends(alloc: Global) -> Result<bool, NoMemory> {
+fn sum_ends(alloc: Global) -> Result<bool, Fail> {
     let want = Want {
         steps: 34,
         ending: Ending::Returned(6),
@@ -73,7 +82,7 @@ fn sum_ends(alloc: Global) -> Result<bool, NoMemory> {
 }
 
 /// One step fewer.
-fn sum_is_spent(alloc: Global) -> Result<bool, NoMemory> {
+fn sum_is_spent(alloc: Global) -> Result<bool, Fail> {
     let want = Want {
         steps: 33,
         ending: Ending::StepsSpent,
@@ -84,7 +93,7 @@ fn sum_is_spent(alloc: Global) -> Result<bool, NoMemory> {
     comes_to(alloc, sum_of_3(alloc)?, b"", 33, want)
 }
 
-fn forever_is_spent(alloc: Global) -> Result<bool, NoMemory> {
+fn forever_is_spent(alloc: Global) -> Result<bool, Fail> {
     let want = Want {
         steps: 5,
         ending: Ending::StepsSpent,
@@ -95,7 +104,7 @@ fn forever_is_spent(alloc: Global) -> Result<bool, NoMemory> {
     comes_to(alloc, forever(alloc)?, b"", 5, want)
 }
 
-fn nothing_is_spent(alloc: Global) -> Result<bool, NoMemory> {
+fn nothing_is_spent(alloc: Global) -> Result<bool, Fail> {
     let want = Want {
         steps: 0,
         ending: Ending::StepsSpent,
@@ -107,7 +116,7 @@ fn nothing_is_spent(alloc: Global) -> Result<bool, NoMemory> {
 }
 
 /// The 4,096th frame is entered.
-fn deep_ends(alloc: Global) -> Result<bool, NoMemory> {
+fn deep_ends(alloc: Global) -> Result<bool, Fail> {
     let want = Want {
         steps: 28665,
         ending: Ending::Returned(0),
@@ -119,7 +128,7 @@ fn deep_ends(alloc: Global) -> Result<bool, NoMemory> {
 }
 
 /// The 4,097th frame is refused.
-fn too_deep_ends(alloc: Global) -> Result<bool, NoMemory> {
+fn too_deep_ends(alloc: Global) -> Result<bool, Fail> {
     let want = Want {
         steps: 24572,
         ending: Ending::TooDeep,
@@ -130,7 +139,7 @@ fn too_deep_ends(alloc: Global) -> Result<bool, NoMemory> {
     comes_to(alloc, too_deep(alloc)?, b"", 100_000, want)
 }
 
-fn echo_of_a_byte(alloc: Global) -> Result<bool, NoMemory> {
+fn echo_of_a_byte(alloc: Global) -> Result<bool, Fail> {
     let want = Want {
         steps: 3,
         ending: Ending::Returned(66),
@@ -141,7 +150,7 @@ fn echo_of_a_byte(alloc: Global) -> Result<bool, NoMemory> {
     comes_to(alloc, echo(alloc)?, b"B!", 100, want)
 }
 
-fn echo_of_the_end(alloc: Global) -> Result<bool, NoMemory> {
+fn echo_of_the_end(alloc: Global) -> Result<bool, Fail> {
     let want = Want {
         steps: 3,
         ending: Ending::Returned(255),
@@ -152,7 +161,7 @@ fn echo_of_the_end(alloc: Global) -> Result<bool, NoMemory> {
     comes_to(alloc, echo(alloc)?, b"", 100, want)
 }
 
-fn violation_is_reported(alloc: Global) -> Result<bool, NoMemory> {
+fn violation_is_reported(alloc: Global) -> Result<bool, Fail> {
     let want = Want {
         steps: 3,
         ending: Ending::Returned(5),
@@ -163,7 +172,7 @@ fn violation_is_reported(alloc: Global) -> Result<bool, NoMemory> {
     comes_to(alloc, violation(alloc)?, b"", 100, want)
 }
 
-fn violation_is_handled(alloc: Global) -> Result<bool, NoMemory> {
+fn violation_is_handled(alloc: Global) -> Result<bool, Fail> {
     let want = Want {
         steps: 28,
         ending: Ending::Returned(5),
@@ -182,7 +191,7 @@ fn violation_is_handled(alloc: Global) -> Result<bool, NoMemory> {
     comes_to(alloc, handled(alloc)?, b"", 100, want)
 }
 
-fn exception_goes_through_frames(alloc: Global) -> Result<bool, NoMemory> {
+fn exception_goes_through_frames(alloc: Global) -> Result<bool, Fail> {
     let want = Want {
         steps: 41,
         ending: Ending::Returned(2),
@@ -199,7 +208,7 @@ fn exception_goes_through_frames(alloc: Global) -> Result<bool, NoMemory> {
     comes_to(alloc, through_frames(alloc)?, b"", 100, want)
 }
 
-fn exception_is_rethrown(alloc: Global) -> Result<bool, NoMemory> {
+fn exception_is_rethrown(alloc: Global) -> Result<bool, Fail> {
     let want = Want {
         steps: 17,
         ending: Ending::Returned(3),
@@ -216,7 +225,7 @@ fn exception_is_rethrown(alloc: Global) -> Result<bool, NoMemory> {
     comes_to(alloc, rethrown(alloc)?, b"", 100, want)
 }
 
-fn dropper_throws_to_the_release(alloc: Global) -> Result<bool, NoMemory> {
+fn dropper_throws_to_the_release(alloc: Global) -> Result<bool, Fail> {
     let want = Want {
         steps: 18,
         ending: Ending::Returned(2),
@@ -233,7 +242,7 @@ fn dropper_throws_to_the_release(alloc: Global) -> Result<bool, NoMemory> {
     comes_to(alloc, dropper_throws(alloc)?, b"", 100, want)
 }
 
-fn barrier_terminates(alloc: Global) -> Result<bool, NoMemory> {
+fn barrier_terminates(alloc: Global) -> Result<bool, Fail> {
     let want = Want {
         steps: 4,
         ending: Ending::Terminated,
@@ -244,7 +253,7 @@ fn barrier_terminates(alloc: Global) -> Result<bool, NoMemory> {
     comes_to(alloc, barred(alloc)?, b"", 100, want)
 }
 
-fn guard_tells_of_the_verdict(alloc: Global) -> Result<bool, NoMemory> {
+fn guard_tells_of_the_verdict(alloc: Global) -> Result<bool, Fail> {
     let want = Want {
         steps: 6,
         ending: Ending::Undefined(Kind::Unset),

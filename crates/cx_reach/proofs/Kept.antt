@@ -24,7 +24,6 @@ use Rattle.cx_reach.specs.Comes.{Comes, start, target, onwards, AreArrivals}
 use Rattle.cx_reach.specs.Agreement.{EnoughComes}
 use Rattle.cx_reach.specs.Broken.{BreaksAt, RegionBreaks, NothingIsBroken, AreKnown, ValidWhereNothingIsBroken}
 use Rattle.cx_reach.proofs.Agreeing.{agrees}
-use Rattle.cx_reach.proofs.Unbroken.{unbroken}
 
 -- ---- what isn't refused holds, where it can be told
 
@@ -242,8 +241,8 @@ module _ (image : Image) (none : NothingIsBroken image) (index : ℕ) (function 
   drops (Some operation) is = tt
   drops None is = tt
 
-valid : (image : Image) → IsStorable image → AreKnown image → NothingIsBroken image → IsValid image
-valid image storable known none = record {
+pub valid_where_nothing_is_broken : ValidWhereNothingIsBroken
+valid_where_nothing_is_broken image storable known none = record {
   storable = storable;
   each_function = all_of (IsValidFunction image) image.functions
       (λ index function at. let (arrivals, are) = known index function at in valid_function image none index function at arrivals are);
@@ -254,6 +253,3 @@ valid image storable known none = record {
   thrown = all_of (λ (function : Function). All (λ i. HasDropper image (operation_of i)) function.code) image.functions
       (λ index function at. all_of (λ i. HasDropper image (operation_of i)) function.code (λ place i e. drops image none index function at place i e (operation_of i) refl));
 }
-
-pub valid_where_nothing_is_broken : ValidWhereNothingIsBroken
-valid_where_nothing_is_broken image storable known = (valid image storable known, unbroken image)

@@ -1,5 +1,5 @@
 -- This defines at which items of an image a rule of a valid image is broken, for a check that names the first such item; it is this project's own.
-use Rattle.std.specs.Prelude.{◌≡◌, ◌⊎◌, ◌↔◌, ℕ, ◌+◌, ◌<◌, ◌≤◌, ℤ, pos, ◌<ℤ◌, List, length, Some, IfSome, slice_get}
+use Rattle.std.specs.Prelude.{◌≡◌, ◌⊎◌, ℕ, ◌+◌, ◌<◌, ◌≤◌, ℤ, pos, ◌<ℤ◌, List, length, Some, IfSome, slice_get}
 use Rattle.cx_code.specs.declared.code.Instruction.{Instruction}
 use Rattle.cx_code.specs.declared.code.Region.{Region}
 use Rattle.cx_code.specs.declared.image.Image.{Image}
@@ -109,4 +109,7 @@ abbrev pub AreKnown : Image → Type 0
 AreKnown image = (index : ℕ) (function : Function) → slice_get image.functions index ≡ Some function → (arrivals : List Arrival) × AreArrivals image function arrivals
 
 abbrev pub ValidWhereNothingIsBroken : Type 0
-ValidWhereNothingIsBroken = (image : Image) → IsStorable image → AreKnown image → NothingIsBroken image ↔ IsValid image
+ValidWhereNothingIsBroken = (image : Image) → IsStorable image → AreKnown image → NothingIsBroken image → IsValid image
+
+abbrev pub NothingIsBrokenInValid : Type 0
+NothingIsBrokenInValid = (image : Image) → IsValid image → NothingIsBroken image

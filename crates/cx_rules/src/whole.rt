@@ -1,4 +1,4 @@
-ghost use Rattle.std.specs.Prelude.{◌≡◌, ◌<◌, length, Err, IfOk, IsOk};
+ghost use Rattle.std.specs.Prelude.{◌≡◌, Err, IfErr, IfOk, IsOk};
 ghost use Rattle.cx_code.specs.Rules.{IsValid};
 ghost use Rattle.cx_code.specs.Storable.{IsStorable};
 ghost use Rattle.cx_reach.specs.declared.item.Item.{Item as Judged};
@@ -10,7 +10,7 @@ ghost use Rattle.cx_rules.specs.declared.whole.Broken.TheVariants as broken;
 use crate::{function_rule, tables_rule};
 use cx_code::Image;
 use cx_outside::NoMemory;
-use cx_reach::laws::valid_where_nothing_is_broken;
+use cx_reach::laws::{nothing_is_broken_in_valid, valid_where_nothing_is_broken};
 use cx_reach::{Item, Rule};
 use std::alloc::Global;
 
@@ -40,13 +40,15 @@ impl From<NoMemory> for Broken {
 ///
 /// `OutOfMemory` comes for want of memory alone, and `At` with the first item at which a rule is
 /// broken and the first such rule: by function its instructions, the count of them and its regions,
-/// then the droppers of the types, `main` and the handler.
+/// then the droppers of the types, `main` and the handler. A valid image is never refused.
 pub fn verify(alloc: Global, image: &Image) -> Result<(), Broken>
     requires { IsStorable image.now }
     ensures valid { IsOk result → IsValid image.now }
     ensures broken { (item : Judged) (rule : Its) → result ≡ Err (Broken.At item rule) → IsFirstBroken image.now item rule }
+    ensures accepts { IsValid image.now → IfErr result (λ fault. fault ≡ broken.OutOfMemory) }
 {
     valid_where_nothing_is_broken();
+    nothing_is_broken_in_valid();
     match first_broken(alloc, image)? {
         None => Ok(()),
         Some((item, rule)) => Err(Broken::At(item, rule)),

@@ -12,11 +12,13 @@ pub struct Row {
     /// The field of the handler.
     pub handler: u8,
     pub item: Item,
+    /// Where the item begins in the file.
+    pub at: u32,
     pub rule: Rule,
 }
 
 /// Images that break a rule.
-pub const BROKEN: [Row; 26] = [
+pub const BROKEN: [Row; 27] = [
     // an instruction of no code
     Row {
         types: b"\x00\x00\x00\x00",
@@ -25,6 +27,19 @@ pub const BROKEN: [Row; 26] = [
         regions: b"\x00\x00\x00\x00",
         handler: 0,
         item: Item::Instruction(0, 0),
+        at: 43,
+        rule: Rule::V1,
+    },
+    // a second instruction of no code
+    Row {
+        types: b"\x00\x00\x00\x00",
+        result: 1,
+        code: b"\x00\x00\x00\x02\x01\x00\x00\x00\x00\x00\x00\x00\x07\x00\x00\x00\x00\x00\
+            \x00\x00\x00\x00",
+        regions: b"\x00\x00\x00\x00",
+        handler: 0,
+        item: Item::Instruction(0, 1),
+        at: 52,
         rule: Rule::V1,
     },
     // a call of no function
@@ -36,6 +51,7 @@ pub const BROKEN: [Row; 26] = [
         regions: b"\x00\x00\x00\x00",
         handler: 0,
         item: Item::Instruction(0, 0),
+        at: 43,
         rule: Rule::V1,
     },
     // an object of too many leaves
@@ -47,6 +63,7 @@ pub const BROKEN: [Row; 26] = [
         regions: b"\x00\x00\x00\x00",
         handler: 0,
         item: Item::Instruction(0, 0),
+        at: 43,
         rule: Rule::V1,
     },
     // a Catch of no type
@@ -60,6 +77,7 @@ pub const BROKEN: [Row; 26] = [
             \x00\x00\x02\x00\x00\x00\x00",
         handler: 0,
         item: Item::Region(0, 0),
+        at: 83,
         rule: Rule::V1,
     },
     // a jump behind the code
@@ -70,6 +88,7 @@ pub const BROKEN: [Row; 26] = [
         regions: b"\x00\x00\x00\x00",
         handler: 0,
         item: Item::Instruction(0, 0),
+        at: 43,
         rule: Rule::V2,
     },
     // a slot that the function lacks
@@ -81,6 +100,7 @@ pub const BROKEN: [Row; 26] = [
         regions: b"\x00\x00\x00\x00",
         handler: 0,
         item: Item::Instruction(0, 0),
+        at: 43,
         rule: Rule::V2,
     },
     // a target behind the code
@@ -93,6 +113,7 @@ pub const BROKEN: [Row; 26] = [
             \x00\x00\x09\x00\x00\x00\x00",
         handler: 0,
         item: Item::Region(0, 0),
+        at: 65,
         rule: Rule::V2,
     },
     // a return without a value
@@ -103,6 +124,7 @@ pub const BROKEN: [Row; 26] = [
         regions: b"\x00\x00\x00\x00",
         handler: 0,
         item: Item::Instruction(0, 0),
+        at: 43,
         rule: Rule::V3,
     },
     // two depths that meet at a place
@@ -115,6 +137,7 @@ pub const BROKEN: [Row; 26] = [
         regions: b"\x00\x00\x00\x00",
         handler: 0,
         item: Item::Instruction(0, 0),
+        at: 43,
         rule: Rule::V3,
     },
     // more than 4,096 operands
@@ -128,6 +151,7 @@ pub const BROKEN: [Row; 26] = [
             \x00\x00\x02\x00\x00\x10\x01",
         handler: 0,
         item: Item::Instruction(0, 2),
+        at: 61,
         rule: Rule::V3,
     },
     // a region without a place
@@ -141,6 +165,7 @@ pub const BROKEN: [Row; 26] = [
             \x00\x00\x02\x00\x00\x00\x00",
         handler: 0,
         item: Item::Region(0, 0),
+        at: 83,
         rule: Rule::V4,
     },
     // a region that ends behind the code
@@ -154,6 +179,7 @@ pub const BROKEN: [Row; 26] = [
             \x00\x00\x02\x00\x00\x00\x00",
         handler: 0,
         item: Item::Region(0, 0),
+        at: 83,
         rule: Rule::V4,
     },
     // a region that keeps what is not there
@@ -166,6 +192,7 @@ pub const BROKEN: [Row; 26] = [
             \x00\x00\x02\x00\x00\x00\x01",
         handler: 0,
         item: Item::Region(0, 0),
+        at: 74,
         rule: Rule::V4,
     },
     // a region that covers its own target
@@ -179,6 +206,7 @@ pub const BROKEN: [Row; 26] = [
             \x00\x00\x02\x00\x00\x00\x00",
         handler: 0,
         item: Item::Region(0, 0),
+        at: 83,
         rule: Rule::V4,
     },
     // a region across an earlier one
@@ -194,6 +222,7 @@ pub const BROKEN: [Row; 26] = [
             \x00\x00\x00\x00\x00\x04\x00\x00\x00\x00",
         handler: 0,
         item: Item::Region(0, 1),
+        at: 122,
         rule: Rule::V4,
     },
     // a call of a function without parameters that passes one
@@ -205,6 +234,7 @@ pub const BROKEN: [Row; 26] = [
         regions: b"\x00\x00\x00\x00",
         handler: 0,
         item: Item::Instruction(0, 1),
+        at: 52,
         rule: Rule::V5,
     },
     // no code
@@ -215,6 +245,7 @@ pub const BROKEN: [Row; 26] = [
         regions: b"\x00\x00\x00\x00",
         handler: 0,
         item: Item::Count(0),
+        at: 39,
         rule: Rule::V6,
     },
     // code that runs off its end
@@ -225,6 +256,7 @@ pub const BROKEN: [Row; 26] = [
         regions: b"\x00\x00\x00\x00",
         handler: 0,
         item: Item::Instruction(0, 0),
+        at: 43,
         rule: Rule::V6,
     },
     // a resume where nothing is pending
@@ -235,6 +267,7 @@ pub const BROKEN: [Row; 26] = [
         regions: b"\x00\x00\x00\x00",
         handler: 0,
         item: Item::Instruction(0, 0),
+        at: 43,
         rule: Rule::V6,
     },
     // a return from a Cleanup
@@ -248,6 +281,7 @@ pub const BROKEN: [Row; 26] = [
             \x00\x00\x02\x00\x00\x00\x00",
         handler: 0,
         item: Item::Instruction(0, 3),
+        at: 70,
         rule: Rule::V6,
     },
     // a place that is reached from a Cleanup and from the start
@@ -260,6 +294,7 @@ pub const BROKEN: [Row; 26] = [
             \x00\x00\x01\x00\x00\x00\x01",
         handler: 0,
         item: Item::Instruction(0, 1),
+        at: 52,
         rule: Rule::V6,
     },
     // a type whose dropper takes nothing
@@ -271,6 +306,7 @@ pub const BROKEN: [Row; 26] = [
         regions: b"\x00\x00\x00\x00",
         handler: 0,
         item: Item::Dropper(0),
+        at: 22,
         rule: Rule::V7,
     },
     // a thrown type without a dropper
@@ -282,6 +318,7 @@ pub const BROKEN: [Row; 26] = [
         regions: b"\x00\x00\x00\x00",
         handler: 0,
         item: Item::Dropper(0),
+        at: 22,
         rule: Rule::V7,
     },
     // a first function without a result
@@ -292,6 +329,7 @@ pub const BROKEN: [Row; 26] = [
         regions: b"\x00\x00\x00\x00",
         handler: 0,
         item: Item::Main,
+        at: 60,
         rule: Rule::V7,
     },
     // a handler that takes nothing
@@ -303,6 +341,7 @@ pub const BROKEN: [Row; 26] = [
         regions: b"\x00\x00\x00\x00",
         handler: 1,
         item: Item::Handler,
+        at: 73,
         rule: Rule::V7,
     },
     // two instructions, of which the later breaks an earlier rule
@@ -314,6 +353,7 @@ pub const BROKEN: [Row; 26] = [
         regions: b"\x00\x00\x00\x00",
         handler: 0,
         item: Item::Instruction(0, 0),
+        at: 43,
         rule: Rule::V2,
     },
 ];

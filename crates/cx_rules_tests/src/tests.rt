@@ -1,4 +1,5 @@
 use crate::rows::{BROKEN, Row};
+use cx_image::{BrokenRule, VerifyFault};
 use cx_outside::{NoMemory, Text};
 use cx_reach::{Item, Rule};
 use cx_rules::{Broken, verify};
@@ -29,6 +30,16 @@ fn first_broken(alloc: Global, bytes: &[u8]) -> Result<Option<(Item, Rule)>, Fai
     }
 }
 
+/// The fault of the image that bytes are, or nothing where it is accepted.
+fn fault_of(alloc: Global, bytes: &[u8]) -> Result<Option<BrokenRule>, Fail> {
+    let image = cx_image::decode(alloc, bytes)?;
+    match cx_image::verify(alloc, image) {
+        Ok(_) => Ok(None),
+        Err(VerifyFault::Broken(broken)) => Ok(Some(broken)),
+        Err(VerifyFault::OutOfMemory) => Err(NoMemory.into()),
+    }
+}
+
 #[test]
 fn the_first_broken_rule_is_named_with_its_item(rt: HostRuntime) -> Result<(), Fail> {
     let alloc = rt.alloc();
@@ -41,6 +52,35 @@ fn the_first_broken_rule_is_named_with_its_item(rt: HostRuntime) -> Result<(), F
 }
 
 #[test]
+fn a_broken_rule_is_told_with_the_place_of_its_item_in_the_file(rt: HostRuntime) -> Result<(), Fail> {
+    let alloc = rt.alloc();
+    for row in &BROKEN {
+        let bytes = image_of(alloc, row)?;
+        let broken = BrokenRule {
+            at: row.at,
+            rule: row.rule,
+        };
+        assert_eq!(rt; fault_of(alloc, bytes.bytes())?, Some(broken));
+    }
+    Ok(())
+}
+
+#[test]
+fn a_reason_is_told_by_ten_and_the_number_of_its_rule(rt: HostRuntime) {
+    let rules = [
+        Rule::V1,
+        Rule::V2,
+        Rule::V3,
+        Rule::V4,
+        Rule::V5,
+        Rule::V6,
+        Rule::V7,
+    ];
+    let numbers = rules.map(|rule| BrokenRule { at: 0, rule }.number());
+    assert_eq!(rt; numbers, [11, 12, 13, 14, 15, 16, 17]);
+}
+
+#[test]
 fn an_image_that_keeps_the_rules_is_accepted(rt: HostRuntime) -> Result<(), Fail> {
     let alloc = rt.alloc();
     let returns = Row {
@@ -50,6 +90,7 @@ fn an_image_that_keeps_the_rules_is_accepted(rt: HostRuntime) -> Result<(), Fail
         regions: b"\x00\x00\x00\x00",
         handler: 0,
         item: Item::Main,
+        at: 0,
         rule: Rule::V7,
     };
     let turns = Row {
@@ -59,6 +100,7 @@ fn an_image_that_keeps_the_rules_is_accepted(rt: HostRuntime) -> Result<(), Fail
     for row in [returns, turns] {
         let bytes = image_of(alloc, &row)?;
         assert_eq!(rt; first_broken(alloc, bytes.bytes())?, None);
+        assert_eq!(rt; fault_of(alloc, bytes.bytes())?, None);
     }
     Ok(())
 }

@@ -3,5 +3,5 @@ use Rattle.cx_code.specs.Rules.{IsValid}
 use Rattle.cx_machine_tests.proofs.Valid.{valid_when}
 use Rattle.cx_machine_tests.proofs.images.valid.Goals as goal
 
-pub new-requires : goal.new-requires
-new-requires c = let e = c.in_ok-image.ensures {u = tt} in subst IsValid (sym e) (valid_when _ c.requires)
+pub verify-requires : goal.verify-requires
+verify-requires c = let e = c.in_ok-image.ensures {u = tt} in (subst IsValid (sym e) (valid_when _ c.requires)).storable

@@ -1,0 +1,5 @@
+use Rattle.cx_image.proofs.Places as law
+use Rattle.cx_image.proofs.laws.items_stand.Goals as goal
+
+pub returns : goal.returns
+returns c = law.items_stand
