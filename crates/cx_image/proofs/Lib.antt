@@ -1,3 +1,3 @@
 pub mod ImageFormat
 mod Sample
-pub mod Places
+pub mod Standing

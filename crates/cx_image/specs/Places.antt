@@ -9,7 +9,7 @@ use Rattle.cx_reach.specs.declared.item.Item.{Item}
 use Rattle.cx_reach.specs.declared.item.Item.TheVariants as items
 
 -- up to the entries of the types
-abbrev pub before_types : Image → List ℕ
+unfoldable pub before_types : Image → List ℕ
 before_types image = codes "CXIM" ++ (1 ∷ []) ++ list text image.texts ++ number (length image.types)
 
 -- of an entry of a type, up to its dropper
@@ -17,7 +17,7 @@ abbrev pub before_dropper : TypeEntry → List ℕ
 before_dropper entry = text entry.name ++ number entry.leaves
 
 -- up to the list of the functions
-abbrev pub before_functions : Image → List ℕ
+unfoldable pub before_functions : Image → List ℕ
 before_functions image = before_types image ++ flat_map type_entry image.types ++ list global image.globals
 
 -- of a function, up to the count of its instructions
@@ -38,7 +38,7 @@ up_to item first (x ∷ xs) zero = first x
 up_to item first (x ∷ xs) (suc index) = item x ++ up_to item first xs index
 
 -- up to the field `main`
-abbrev pub before_main : Image → List ℕ
+unfoldable pub before_main : Image → List ℕ
 before_main image = before_functions image ++ list function image.functions ++ list assertion image.assertions
 
 abbrev pub before : Image → Item → List ℕ
@@ -69,14 +69,14 @@ of None bytes = []
 of (Some x) bytes = bytes x
 
 -- the bytes of the item itself: the instruction, the count, the region, the dropper or the field
-abbrev pub own : Image → Item → List ℕ
-own image (items.Instruction index place) = of (slice_get image.functions index) (λ (f : Function). of (slice_get f.code place) instruction)
-own image (items.Count index) = of (slice_get image.functions index) (λ (f : Function). number (length f.code))
-own image (items.Region index own) = of (slice_get image.functions index) (λ (f : Function). of (slice_get f.regions own) region)
-own image (items.Dropper type) = of (slice_get image.types type) (λ (entry : TypeEntry). number entry.dropper)
-own image items.Main = number image.main
-own image items.Handler = number image.handler
+abbrev pub item_bytes : Image → Item → List ℕ
+item_bytes image (items.Instruction index place) = of (slice_get image.functions index) (λ (f : Function). of (slice_get f.code place) instruction)
+item_bytes image (items.Count index) = of (slice_get image.functions index) (λ (f : Function). number (length f.code))
+item_bytes image (items.Region index own) = of (slice_get image.functions index) (λ (f : Function). of (slice_get f.regions own) region)
+item_bytes image (items.Dropper type) = of (slice_get image.types type) (λ (entry : TypeEntry). number entry.dropper)
+item_bytes image items.Main = number image.main
+item_bytes image items.Handler = number image.handler
 
 -- each item of an image stands in its bytes, at its place
 abbrev pub ItemsStand : Type 0
-ItemsStand = (image : Image) (item : Item) → HasItem image item → (rest : List ℕ) × (image_spelling image ≡ before image item ++ own image item ++ rest)
+ItemsStand = (image : Image) (item : Item) → HasItem image item → (rest : List ℕ) × (image_spelling image ≡ before image item ++ item_bytes image item ++ rest)

@@ -17,20 +17,30 @@ use std::alloc::Global;
 
 /// Where an item of an image begins in its file, counted from the first byte. As this is asked for at most
 /// once, what stands before the item is written, and its length is the place.
+#[tactic(auto, using(crate::proofs::Standing::place_fits))]
 pub fn place_of(alloc: Global, image: &Image, item: Item) -> Result<u32, NoMemory>
     requires storable { IsStorable image.now }
     requires there { HasItem image.now item }
     ensures { IfOk result (λ at. at ≡ place_of image.now item) }
 {
-    let before = match item {
-        Item::Instruction(index, place) => before_instruction(alloc, image, index, place)?,
-        Item::Count(index) => before_code(alloc, image, index)?,
-        Item::Region(index, own) => before_region(alloc, image, index, own)?,
-        Item::Dropper(of) => before_dropper(alloc, image, of)?,
-        Item::Main => before_main(alloc, image)?,
-        Item::Handler => before_handler(alloc, image)?,
-    };
+    let before = before(alloc, image, item)?;
     Ok(before.bytes().len() as u32)
+}
+
+/// Bytes as many as stand before an item.
+fn before(alloc: Global, image: &Image, item: Item) -> Result<Text, NoMemory>
+    requires storable { IsStorable image.now }
+    requires there { HasItem image.now item }
+    ensures { IfOk result (λ before. length before ≡ place_of image.now item) }
+{
+    match item {
+        Item::Instruction(index, place) => before_instruction(alloc, image, index, place),
+        Item::Count(index) => before_code(alloc, image, index),
+        Item::Region(index, own) => before_region(alloc, image, index, own),
+        Item::Dropper(of) => before_dropper(alloc, image, of),
+        Item::Main => before_main(alloc, image),
+        Item::Handler => before_handler(alloc, image),
+    }
 }
 
 /// What stands before the count of a function's instructions.

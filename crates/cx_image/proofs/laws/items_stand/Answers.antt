@@ -1,4 +1,4 @@
-use Rattle.cx_image.proofs.Places as law
+use Rattle.cx_image.proofs.Standing as law
 use Rattle.cx_image.proofs.laws.items_stand.Goals as goal
 
 pub returns : goal.returns
