@@ -52,7 +52,9 @@ fn the_first_broken_rule_is_named_with_its_item(rt: HostRuntime) -> Result<(), F
 }
 
 #[test]
-fn a_broken_rule_is_told_with_the_place_of_its_item_in_the_file(rt: HostRuntime) -> Result<(), Fail> {
+fn a_broken_rule_is_told_with_the_place_of_its_item_in_the_file(
+    rt: HostRuntime,
+) -> Result<(), Fail> {
     let alloc = rt.alloc();
     for row in &BROKEN {
         let bytes = image_of(alloc, row)?;
