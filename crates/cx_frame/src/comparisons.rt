@@ -21,6 +21,7 @@ impl Frame {
         ensures ok { (image : Image) (s : State) → IfOk result (λ event. IsMade (act image does.Equal (framed s self.old)) (framed s self.new) event) }
         ensures err { (image : Image) (s : State) → IfErr result (λ stop. IsStop stop (act image does.Equal (framed s self.old))) }
         ensures same { self.new.function ≡ self.old.function }
+        ensures pending { self.new.pending ≡ self.old.pending }
     {
         let right = self.operands.pop();
         let left = self.operands.pop();
@@ -38,6 +39,7 @@ impl Frame {
         ensures ok { (image : Image) (s : State) → IfOk result (λ event. IsMade (act image does.NotEqual (framed s self.old)) (framed s self.new) event) }
         ensures err { (image : Image) (s : State) → IfErr result (λ stop. IsStop stop (act image does.NotEqual (framed s self.old))) }
         ensures same { self.new.function ≡ self.old.function }
+        ensures pending { self.new.pending ≡ self.old.pending }
     {
         let right = self.operands.pop();
         let left = self.operands.pop();
@@ -55,6 +57,7 @@ impl Frame {
         ensures ok { (image : Image) (s : State) → IfOk result (λ event. IsMade (act image does.Less (framed s self.old)) (framed s self.new) event) }
         ensures err { (image : Image) (s : State) → IfErr result (λ stop. IsStop stop (act image does.Less (framed s self.old))) }
         ensures same { self.new.function ≡ self.old.function }
+        ensures pending { self.new.pending ≡ self.old.pending }
     {
         let Some(right) = take_number(&mut self.operands) else {
             return Err(Stop::MIXED);
@@ -73,6 +76,7 @@ impl Frame {
         ensures ok { (image : Image) (s : State) → IfOk result (λ event. IsMade (act image does.LessOrEqual (framed s self.old)) (framed s self.new) event) }
         ensures err { (image : Image) (s : State) → IfErr result (λ stop. IsStop stop (act image does.LessOrEqual (framed s self.old))) }
         ensures same { self.new.function ≡ self.old.function }
+        ensures pending { self.new.pending ≡ self.old.pending }
     {
         let Some(right) = take_number(&mut self.operands) else {
             return Err(Stop::MIXED);
@@ -91,6 +95,7 @@ impl Frame {
         ensures ok { (image : Image) (s : State) → IfOk result (λ event. IsMade (act image does.Greater (framed s self.old)) (framed s self.new) event) }
         ensures err { (image : Image) (s : State) → IfErr result (λ stop. IsStop stop (act image does.Greater (framed s self.old))) }
         ensures same { self.new.function ≡ self.old.function }
+        ensures pending { self.new.pending ≡ self.old.pending }
     {
         let Some(right) = take_number(&mut self.operands) else {
             return Err(Stop::MIXED);
@@ -109,6 +114,7 @@ impl Frame {
         ensures ok { (image : Image) (s : State) → IfOk result (λ event. IsMade (act image does.GreaterOrEqual (framed s self.old)) (framed s self.new) event) }
         ensures err { (image : Image) (s : State) → IfErr result (λ stop. IsStop stop (act image does.GreaterOrEqual (framed s self.old))) }
         ensures same { self.new.function ≡ self.old.function }
+        ensures pending { self.new.pending ≡ self.old.pending }
     {
         let Some(right) = take_number(&mut self.operands) else {
             return Err(Stop::MIXED);
@@ -127,6 +133,7 @@ impl Frame {
         ensures ok { (image : Image) (s : State) → IfOk result (λ event. IsMade (act image (does.Convert scalar) (framed s self.old)) (framed s self.new) event) }
         ensures err { (image : Image) (s : State) → IfErr result (λ stop. IsStop stop (act image (does.Convert scalar) (framed s self.old))) }
         ensures same { self.new.function ≡ self.old.function }
+        ensures pending { self.new.pending ≡ self.old.pending }
     {
         let value = self.operands.pop();
         match convert(scalar, value) {

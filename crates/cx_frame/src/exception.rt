@@ -1,6 +1,5 @@
 ghost use Rattle.std.specs.Prelude.{◌≡◌, ◌≢◌, [], ◌∷◌, OnOk, OnErr, MatchOption};
-ghost use Rattle.std.specs.List.{list_any};
-ghost use Rattle.cx_code.specs.Act.{is_same};
+ghost use Rattle.std.specs.Bool.{OnTrue, OnFalse};
 
 use cx_outside::NoMemory;
 use std::alloc::Global;
@@ -86,27 +85,12 @@ impl Exceptions {
         self.exceptions.pop().unwrap()
     }
 
-    /// Whether one of them is the same exception, by its number.
-    pub fn has(&self, exception: Exception) -> bool
-        ensures { result ≡ list_any (is_same exception) self.now }
+    /// Whether there is none.
+    #[inline(always)]
+    pub fn is_empty(&self) -> bool
+        ensures none { OnTrue result (self.now ≡ []) }
+        ensures some { OnFalse result (self.now ≢ []) }
     {
-        is_among(exception, &self.exceptions)
+        self.exceptions.is_empty()
     }
-}
-
-fn is_among(exception: Exception, exceptions: &[Exception]) -> bool
-    ensures { result ≡ list_any (is_same exception) exceptions.now }
-{
-    for other in exceptions {
-        if is_same(exception, *other) {
-            return true;
-        }
-    }
-    false
-}
-
-fn is_same(a: Exception, b: Exception) -> bool
-    ensures { result ≡ is_same a b }
-{
-    a.number == b.number
 }

@@ -65,6 +65,7 @@ impl Frame {
         ensures gives { OnOk result (self.new ≡ record self.old { place = self.old.place + 1; operands = value ∷ self.old.operands }) }
         ensures err { (made : _) → IfErr result (λ stop. IsStop stop made) }
         ensures same { self.new.function ≡ self.old.function }
+        ensures pending { self.new.pending ≡ self.old.pending }
     {
         if self.operands.push(value).is_err() {
             return Err(Stop::NoMemory);

@@ -17,6 +17,7 @@ impl Frame {
         ensures ok { (image : Image) (s : State) → IfOk result (λ event. IsMade (act image (does.Jump to) (framed s self.old)) (framed s self.new) event) }
         ensures err { (image : Image) (s : State) → IfErr result (λ stop. IsStop stop (act image (does.Jump to) (framed s self.old))) }
         ensures same { self.new.function ≡ self.old.function }
+        ensures pending { self.new.pending ≡ self.old.pending }
     {
         self.place = to;
         Ok(None)
@@ -30,6 +31,7 @@ impl Frame {
         ensures ok { (image : Image) (s : State) → IfOk result (λ event. IsMade (act image (does.JumpZero to) (framed s self.old)) (framed s self.new) event) }
         ensures err { (image : Image) (s : State) → IfErr result (λ stop. IsStop stop (act image (does.JumpZero to) (framed s self.old))) }
         ensures same { self.new.function ≡ self.old.function }
+        ensures pending { self.new.pending ≡ self.old.pending }
     {
         let Some(n) = take_number(&mut self.operands) else {
             return Err(Stop::MIXED);
@@ -50,6 +52,7 @@ impl Frame {
         ensures ok { (image : Image) (s : State) → IfOk result (λ event. IsMade (act image (does.JumpNonzero to) (framed s self.old)) (framed s self.new) event) }
         ensures err { (image : Image) (s : State) → IfErr result (λ stop. IsStop stop (act image (does.JumpNonzero to) (framed s self.old))) }
         ensures same { self.new.function ≡ self.old.function }
+        ensures pending { self.new.pending ≡ self.old.pending }
     {
         let Some(n) = take_number(&mut self.operands) else {
             return Err(Stop::MIXED);

@@ -21,6 +21,7 @@ impl Frame {
         ensures ok { (image : Image) (s : State) → IfOk result (λ event. IsMade (act image does.Out (framed s self.old)) (framed s self.new) event) }
         ensures err { (image : Image) (s : State) → IfErr result (λ stop. IsStop stop (act image does.Out (framed s self.old))) }
         ensures same { self.new.function ≡ self.old.function }
+        ensures pending { self.new.pending ≡ self.old.pending }
     {
         let Some(n) = take_number(&mut self.operands) else {
             return Err(Stop::MIXED);
@@ -37,6 +38,7 @@ impl Frame {
         ensures ok { (image : Image) (s : State) → IfOk result (λ event. IsMade (act image (does.Begin assertion party semantic) (framed s self.old)) (framed s self.new) event) }
         ensures err { (image : Image) (s : State) → IfErr result (λ stop. IsStop stop (act image (does.Begin assertion party semantic) (framed s self.old))) }
         ensures same { self.new.function ≡ self.old.function }
+        ensures pending { self.new.pending ≡ self.old.pending }
     {
         self.place += 1;
         Ok(Some(Event::Begin(assertion, party, semantic)))
@@ -50,6 +52,7 @@ impl Frame {
         ensures ok { (image : Image) (s : State) → IfOk result (λ event. IsMade (act image (does.Verdict assertion) (framed s self.old)) (framed s self.new) event) }
         ensures err { (image : Image) (s : State) → IfErr result (λ stop. IsStop stop (act image (does.Verdict assertion) (framed s self.old))) }
         ensures same { self.new.function ≡ self.old.function }
+        ensures pending { self.new.pending ≡ self.old.pending }
     {
         let _ = assertion;
         let Value::Number(n) = self.operands.last() else {
@@ -71,6 +74,7 @@ impl Frame {
         ensures ok { (image : Image) (s : State) → IfOk result (λ event. IsMade (act image (does.Destroyed class) (framed s self.old)) (framed s self.new) event) }
         ensures err { (image : Image) (s : State) → IfErr result (λ stop. IsStop stop (act image (does.Destroyed class) (framed s self.old))) }
         ensures same { self.new.function ≡ self.old.function }
+        ensures pending { self.new.pending ≡ self.old.pending }
     {
         let Some((number, leaf)) = take_object(&mut self.operands) else {
             return Err(Stop::MIXED);

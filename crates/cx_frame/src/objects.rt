@@ -24,6 +24,7 @@ impl Frame {
         ensures ok { (image : Image) (s : State) → IfOk result (λ event. IsMade (act image (does.Make leaves slot) (framed (with_store s (M.store memory.old)) self.old)) (framed (with_store s (M.store memory.new)) self.new) event) }
         ensures err { (image : Image) (s : State) → IfErr result (λ stop. IsStop stop (act image (does.Make leaves slot) (framed (with_store s (M.store memory.old)) self.old))) }
         ensures same { self.new.function ≡ self.old.function }
+        ensures pending { self.new.pending ≡ self.old.pending }
         ensures grows { OnOk result (Grows (M.store memory.old) (M.store memory.new)) }
     {
         let Ok(number) = memory.make(leaves) else {
@@ -42,6 +43,7 @@ impl Frame {
         ensures ok { (image : Image) (s : State) → IfOk result (λ event. IsMade (act image does.End (framed (with_store s (M.store memory.old)) self.old)) (framed (with_store s (M.store memory.new)) self.new) event) }
         ensures err { (image : Image) (s : State) → IfErr result (λ stop. IsStop stop (act image does.End (framed (with_store s (M.store memory.old)) self.old))) }
         ensures same { self.new.function ≡ self.old.function }
+        ensures pending { self.new.pending ≡ self.old.pending }
         ensures grows { OnOk result (Grows (M.store memory.old) (M.store memory.new)) }
     {
         let Some((number, leaf)) = take_object(&mut self.operands) else {
@@ -65,6 +67,7 @@ impl Frame {
         ensures ok { (image : Image) (s : State) → IfOk result (λ event. IsMade (act image does.Load (framed (with_store s (M.store memory.now)) self.old)) (framed (with_store s (M.store memory.now)) self.new) event) }
         ensures err { (image : Image) (s : State) → IfErr result (λ stop. IsStop stop (act image does.Load (framed (with_store s (M.store memory.now)) self.old))) }
         ensures same { self.new.function ≡ self.old.function }
+        ensures pending { self.new.pending ≡ self.old.pending }
     {
         let (number, leaf) = take_address(&mut self.operands)?;
         match memory.load(number, leaf) {
@@ -82,6 +85,7 @@ impl Frame {
         ensures ok { (image : Image) (s : State) → IfOk result (λ event. IsMade (act image does.Store (framed (with_store s (M.store memory.old)) self.old)) (framed (with_store s (M.store memory.new)) self.new) event) }
         ensures err { (image : Image) (s : State) → IfErr result (λ stop. IsStop stop (act image does.Store (framed (with_store s (M.store memory.old)) self.old))) }
         ensures same { self.new.function ≡ self.old.function }
+        ensures pending { self.new.pending ≡ self.old.pending }
         ensures grows { OnOk result (Grows (M.store memory.old) (M.store memory.new)) }
     {
         let value = self.operands.pop();
@@ -102,6 +106,7 @@ impl Frame {
         ensures ok { (image : Image) (s : State) → IfOk result (λ event. IsMade (act image (does.Offset by) (framed (with_store s (M.store memory.now)) self.old)) (framed (with_store s (M.store memory.now)) self.new) event) }
         ensures err { (image : Image) (s : State) → IfErr result (λ stop. IsStop stop (act image (does.Offset by) (framed (with_store s (M.store memory.now)) self.old))) }
         ensures same { self.new.function ≡ self.old.function }
+        ensures pending { self.new.pending ≡ self.old.pending }
     {
         let (number, leaf) = take_address(&mut self.operands)?;
         match leaf.checked_add(by) {
@@ -120,6 +125,7 @@ impl Frame {
         ensures ok { (image : Image) (s : State) → IfOk result (λ event. IsMade (act image does.Copy (framed (with_store s (M.store memory.old)) self.old)) (framed (with_store s (M.store memory.new)) self.new) event) }
         ensures err { (image : Image) (s : State) → IfErr result (λ stop. IsStop stop (act image does.Copy (framed (with_store s (M.store memory.old)) self.old))) }
         ensures same { self.new.function ≡ self.old.function }
+        ensures pending { self.new.pending ≡ self.old.pending }
         ensures grows { OnOk result (Grows (M.store memory.old) (M.store memory.new)) }
     {
         let to = self.operands.pop();
@@ -148,6 +154,7 @@ impl Frame {
         ensures ok { (image : Image) (s : State) → IfOk result (λ event. IsMade (act image (does.Global index) (framed s self.old)) (framed s self.new) event) }
         ensures err { (image : Image) (s : State) → IfErr result (λ stop. IsStop stop (act image (does.Global index) (framed s self.old))) }
         ensures same { self.new.function ≡ self.old.function }
+        ensures pending { self.new.pending ≡ self.old.pending }
     {
         self.give(Value::Address(u64::from(index) + 1, 0))
     }

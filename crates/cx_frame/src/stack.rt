@@ -18,6 +18,7 @@ impl Frame {
         ensures ok { (image : Image) (s : State) → IfOk result (λ event. IsMade (act image (does.Push n) (framed s self.old)) (framed s self.new) event) }
         ensures err { (image : Image) (s : State) → IfErr result (λ stop. IsStop stop (act image (does.Push n) (framed s self.old))) }
         ensures same { self.new.function ≡ self.old.function }
+        ensures pending { self.new.pending ≡ self.old.pending }
     {
         self.give(Value::Number(i128::from(n)))
     }
@@ -29,6 +30,7 @@ impl Frame {
         ensures ok { (image : Image) (s : State) → IfOk result (λ event. IsMade (act image (does.PushBig n) (framed s self.old)) (framed s self.new) event) }
         ensures err { (image : Image) (s : State) → IfErr result (λ stop. IsStop stop (act image (does.PushBig n) (framed s self.old))) }
         ensures same { self.new.function ≡ self.old.function }
+        ensures pending { self.new.pending ≡ self.old.pending }
     {
         self.give(Value::Number(i128::from(n)))
     }
@@ -40,6 +42,7 @@ impl Frame {
         ensures ok { (image : Image) (s : State) → IfOk result (λ event. IsMade (act image does.PushNull (framed s self.old)) (framed s self.new) event) }
         ensures err { (image : Image) (s : State) → IfErr result (λ stop. IsStop stop (act image does.PushNull (framed s self.old))) }
         ensures same { self.new.function ≡ self.old.function }
+        ensures pending { self.new.pending ≡ self.old.pending }
     {
         self.give(Value::Null)
     }
@@ -52,6 +55,7 @@ impl Frame {
         ensures ok { (image : Image) (s : State) → IfOk result (λ event. IsMade (act image does.Duplicate (framed s self.old)) (framed s self.new) event) }
         ensures err { (image : Image) (s : State) → IfErr result (λ stop. IsStop stop (act image does.Duplicate (framed s self.old))) }
         ensures same { self.new.function ≡ self.old.function }
+        ensures pending { self.new.pending ≡ self.old.pending }
     {
         let value = self.operands.last();
         self.give(value)
@@ -65,6 +69,7 @@ impl Frame {
         ensures ok { (image : Image) (s : State) → IfOk result (λ event. IsMade (act image does.Discard (framed s self.old)) (framed s self.new) event) }
         ensures err { (image : Image) (s : State) → IfErr result (λ stop. IsStop stop (act image does.Discard (framed s self.old))) }
         ensures same { self.new.function ≡ self.old.function }
+        ensures pending { self.new.pending ≡ self.old.pending }
     {
         self.operands.pop();
         self.place += 1;
@@ -79,6 +84,7 @@ impl Frame {
         ensures ok { (image : Image) (s : State) → IfOk result (λ event. IsMade (act image does.Swap (framed s self.old)) (framed s self.new) event) }
         ensures err { (image : Image) (s : State) → IfErr result (λ stop. IsStop stop (act image does.Swap (framed s self.old))) }
         ensures same { self.new.function ≡ self.old.function }
+        ensures pending { self.new.pending ≡ self.old.pending }
     {
         let right = self.operands.pop();
         let left = self.operands.pop();
@@ -96,6 +102,7 @@ impl Frame {
         ensures ok { (image : Image) (s : State) → IfOk result (λ event. IsMade (act image (does.Get slot) (framed s self.old)) (framed s self.new) event) }
         ensures err { (image : Image) (s : State) → IfErr result (λ stop. IsStop stop (act image (does.Get slot) (framed s self.old))) }
         ensures same { self.new.function ≡ self.old.function }
+        ensures pending { self.new.pending ≡ self.old.pending }
     {
         match self.slots[slot as usize] {
             Some(value) => self.give(value),
@@ -112,6 +119,7 @@ impl Frame {
         ensures ok { (image : Image) (s : State) → IfOk result (λ event. IsMade (act image (does.Set slot) (framed s self.old)) (framed s self.new) event) }
         ensures err { (image : Image) (s : State) → IfErr result (λ stop. IsStop stop (act image (does.Set slot) (framed s self.old))) }
         ensures same { self.new.function ≡ self.old.function }
+        ensures pending { self.new.pending ≡ self.old.pending }
     {
         let value = self.operands.pop();
         self.slots[slot as usize] = Some(value);

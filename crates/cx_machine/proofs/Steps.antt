@@ -1,5 +1,5 @@
 -- What the machine's definition says of a step, with what the code has found out put into it.
-use Rattle.std.proofs.Common.{◌≡◌, ℕ, ◌+◌, ◌-◌, ◌<◌, ◌≤◌, Bool, true, false, List, [], ◌∷◌, length, drop, Option, Some, None, slice_get, if◌then◌else◌, ◌==◌, refl, arith}
+use Rattle.std.proofs.Common.{◌≡◌, ℕ, ◌+◌, ◌-◌, ◌<◌, ◌≤◌, Bool, true, false, List, [], ◌∷◌, length, drop, Option, Some, None, IsSome, IfSome, slice_get, if◌then◌else◌, ◌==◌, refl, arith}
 use Rattle.std.proofs.lemmas.List.{length-drop}
 use Rattle.std.proofs.lemmas.Bool.Decides.{nat_tests}
 use Rattle.cx_code.specs.declared.code.Region.{Region}
@@ -9,7 +9,7 @@ use Rattle.cx_code.specs.declared.image.TypeEntry.{TypeEntry}
 use Rattle.cx_code.specs.declared.run.Value.{Value}
 use Rattle.cx_code.specs.declared.run.Value.TheVariants as values
 use Rattle.cx_code.specs.State.{State, Frame, Exception}
-use Rattle.cx_code.specs.Act.{left, entered, released, is_kept}
+use Rattle.cx_code.specs.Act.{left, entered, released, dropped, on_some, mixed, is_kept}
 use Rattle.cx_code.specs.Unwind.{unwound, tried, gone, covers, first_covering, first_left, next_region}
 
 -- a frame is left without a look at it
@@ -58,10 +58,19 @@ tried_from image s exception after function index region at next its = rw (at, n
 -- ---- exceptions
 
 -- the dropper of an exception is called
-pub drops : (image : Image) (s : State) (exception : Exception) (held : List Exception) (entry : TypeEntry) (dropper : ℕ) → s.held ≡ exception ∷ held
-    → is_kept exception held (s.frame ∷ s.below) ≡ false → slice_get image.types exception.of ≡ Some entry → entry.dropper ≡ dropper + 1
-    → released image s s.held ≡ entered image (record s { held = held }) dropper (values.Address exception.object exception.leaf ∷ []) s.frame.operands None
-drops image s exception held entry dropper is kept its e =
+dropper_called : (image : Image) (s : State) (exception : Exception) (dropper : ℕ) (entry : TypeEntry) → entry.dropper ≡ dropper + 1
+    → dropped image s exception entry ≡ entered image s dropper (values.Address exception.object exception.leaf ∷ []) s.frame.operands None
+dropper_called image s exception dropper entry e =
     let some : (entry.dropper == 0) ≡ false = grind (arith, nat_tests) in
     let index : entry.dropper - 1 ≡ dropper = omega arith in
-    rw (is, kept, its, some, index) refl
+    rw (some, index) refl
+
+found_called : (image : Image) (s : State) (exception : Exception) (dropper : ℕ) (found : Option TypeEntry) → IsSome found → IfSome found (λ (entry : TypeEntry). entry.dropper ≡ dropper + 1)
+    → on_some found mixed (dropped image s exception) ≡ entered image s dropper (values.Address exception.object exception.leaf ∷ []) s.frame.operands None
+found_called image s exception dropper None some e = absurd (cc)
+found_called image s exception dropper (Some entry) some e = dropper_called image s exception dropper entry e
+
+pub drops : (image : Image) (s : State) (exception : Exception) (held : List Exception) (dropper : ℕ) → s.held ≡ exception ∷ held → is_kept exception held (s.frame ∷ s.below) ≡ false
+    → IsSome (slice_get image.types exception.of) → IfSome (slice_get image.types exception.of) (λ (entry : TypeEntry). entry.dropper ≡ dropper + 1)
+    → released image s s.held ≡ entered image (record s { held = held }) dropper (values.Address exception.object exception.leaf ∷ []) s.frame.operands None
+drops image s exception held dropper is kept some e = rw (is, kept) (found_called image (record s { held = held }) exception dropper (slice_get image.types exception.of) some e)

@@ -7,6 +7,7 @@ use Rattle.cx_code.specs.State as states
 use Rattle.cx_code.specs.Act.{counts}
 use Rattle.cx_frame.specs.Frames.{frame_in}
 use Rattle.cx_machine.specs.declared.state.Machine.{Machine}
+use Rattle.cx_machine.specs.Kept.{counts_in, counts_due}
 
 abbrev pub control_of : Option states.Exception → Option ℕ → states.Control
 control_of None after = states.Runs
@@ -34,7 +35,12 @@ counted_of image function below =
 abbrev pub IsCounted : Image → Machine → Type 0
 IsCounted image machine = machine.counted ≡ counted_of image machine.frame.function machine.below
 
--- what a step keeps beside the state: the count of frames; and it throws at most once
+-- the machine knows how often each exception is held or pending
+abbrev pub IsTold : Machine → Type 0
+IsTold machine = counts_in machine.kept ≡ counts_due machine.held machine.frame.pending machine.below
+
+-- what a step keeps beside the state: the count of frames, and the counts of what is held or pending; and it throws at most once
 pub record Keeps (image : Image) (old new : Machine) : Type 0 where
   pub counted : IsCounted image old → IsCounted image new
+  pub told : IsTold old → IsTold new
   pub thrown : new.thrown ≤ old.thrown + 1

@@ -2,7 +2,7 @@ ghost use Rattle.std.specs.Prelude.{◌≡◌, ◌+◌, ◌≤◌, ◌<◌, ◌^
 ghost use Rattle.cx_code.specs.Act.{act};
 ghost use Rattle.cx_frame.specs.Made.{IsMade, IsStop};
 ghost use Rattle.cx_frame.specs.Stores.{Grows};
-ghost use Rattle.cx_machine.specs.States.{state_of, IsCounted, Keeps};
+ghost use Rattle.cx_machine.specs.States.{state_of, IsCounted, IsTold, Keeps};
 ghost use Rattle.cx_machine.specs.Due.{IsDue, HasRoom};
 ghost use Rattle.cx_machine.specs.Loading.{IsLoaded};
 ghost use Rattle.cx_sound.specs.Sound.{IsSound};
@@ -31,6 +31,7 @@ impl Machine {
         requires loaded { IsLoaded image.now program.now }
         requires room { HasRoom (state_of self.old (M.store memory.old)) }
         requires counted { IsCounted image.now self.old }
+        requires told { IsTold self.old }
         ensures ok { IfOk result (λ event. IsMade (step image.now (state_of self.old (M.store memory.old))) (state_of self.new (M.store memory.new)) event) }
         ensures err { IfErr result (λ stop. IsStop stop (step image.now (state_of self.old (M.store memory.old)))) }
         ensures keeps { OnOk result (Keeps image.now self.old self.new) }
@@ -62,6 +63,7 @@ impl Machine {
         requires due { IsDue image.now operation (state_of self.old (M.store memory.old)) }
         requires room { HasRoom (state_of self.old (M.store memory.old)) }
         requires counted { IsCounted image.now self.old }
+        requires told { IsTold self.old }
         ensures ok { IfOk result (λ event. IsMade (act image.now operation (state_of self.old (M.store memory.old))) (state_of self.new (M.store memory.new)) event) }
         ensures err { IfErr result (λ stop. IsStop stop (act image.now operation (state_of self.old (M.store memory.old)))) }
         ensures keeps { OnOk result (Keeps image.now self.old self.new) }

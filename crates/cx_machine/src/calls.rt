@@ -4,7 +4,7 @@ ghost use Rattle.cx_code.specs.declared.operation.Operation.TheVariants as does;
 ghost use Rattle.cx_code.specs.Store.{Store};
 ghost use Rattle.cx_code.specs.Act.{act, entered, left, returned, is_too_deep, counts};
 ghost use Rattle.cx_frame.specs.Made.{IsMade, IsStop};
-ghost use Rattle.cx_machine.specs.States.{state_of, IsCounted, Keeps};
+ghost use Rattle.cx_machine.specs.States.{state_of, IsCounted, IsTold, Keeps};
 ghost use Rattle.std.specs.Bool.{OnTrue, OnFalse};
 ghost use Rattle.cx_code.specs.Act.{Ends};
 ghost use Rattle.cx_code.specs.Reached.{result_count};
@@ -43,6 +43,7 @@ impl Machine {
         ensures ok { (store : Store) → IfOk result (λ noted. IsMade (entered image.now (state_of self.old store) index (reverse (take count self.old.frame.operands)) (drop count self.old.frame.operands) event) (state_of self.new store) noted) }
         ensures err { (store : Store) → IfErr result (λ stop. IsStop stop (entered image.now (state_of self.old store) index (reverse (take count self.old.frame.operands)) (drop count self.old.frame.operands) event)) }
         ensures counted { OnOk result (IsCounted image.now self.new) }
+        ensures told { IsTold self.old → OnOk result (IsTold self.new) }
         ensures thrown { self.new.thrown ≡ self.old.thrown }
     {
         let function = function_at(image, index);
@@ -78,6 +79,7 @@ impl Machine {
         ensures ok { (store : Store) → IfOk result (λ noted. IsMade (entered image.now (state_of self.old store) index (argument ∷ []) self.old.frame.operands event) (state_of self.new store) noted) }
         ensures err { (store : Store) → IfErr result (λ stop. IsStop stop (entered image.now (state_of self.old store) index (argument ∷ []) self.old.frame.operands event)) }
         ensures counted { OnOk result (IsCounted image.now self.new) }
+        ensures told { IsTold self.old → OnOk result (IsTold self.new) }
         ensures thrown { self.new.thrown ≡ self.old.thrown }
     {
         self.frame.operands.push(argument)?;
@@ -118,14 +120,16 @@ impl Machine {
         requires its_function { self.old.frame.function < length image.now.functions }
         requires counted { IsCounted image.now self.old }
         ensures uncovered { OnTrue result (self.old.below ≡ frame_in self.new.frame ∷ self.new.below) }
-        ensures others { self.new ≡ record self.old { frame = self.new.frame; below = self.new.below; counted = self.new.counted } }
+        ensures others { self.new ≡ record self.old { frame = self.new.frame; below = self.new.below; kept = self.new.kept; counted = self.new.counted } }
         ensures counted { OnTrue result (IsCounted image.now self.new) }
+        ensures told { IsTold self.old → OnTrue result (IsTold self.new) }
         ensures last { OnFalse result (self.old.below ≡ []) }
         ensures same { OnFalse result (self.new.frame ≡ self.old.frame) }
     {
         let Some(caller) = self.below.pop() else {
             return false;
         };
+        self.kept.drop_all(&mut self.frame.pending);
         let counted = function_at(image, self.frame.function).counted;
         self.frame = caller;
         if counted {
@@ -143,6 +147,7 @@ impl Machine {
         ensures ok { (store : Store) → IfOk result (λ event. IsMade (left (state_of self.old store) self.old.below value) (state_of self.new store) event) }
         ensures err { (store : Store) → IfErr result (λ stop. IsStop stop (left (state_of self.old store) self.old.below value)) }
         ensures counted { OnOk result (IsCounted image.now self.new) }
+        ensures told { IsTold self.old → OnOk result (IsTold self.new) }
         ensures thrown { self.new.thrown ≡ self.old.thrown }
     {
         if !self.uncover(image) {

@@ -4,12 +4,13 @@ ghost use Rattle.cx_code.specs.declared.operation.Operation.TheVariants as does;
 ghost use Rattle.cx_code.specs.Store.{Store};
 ghost use Rattle.cx_code.specs.Act.{act, is_kept};
 ghost use Rattle.cx_frame.specs.Made.{IsMade, IsStop};
-ghost use Rattle.cx_machine.specs.States.{state_of, IsCounted, Keeps};
+ghost use Rattle.cx_machine.specs.States.{state_of, IsCounted, IsTold, Keeps};
 ghost use Rattle.std.specs.List.{All};
 ghost use Rattle.cx_frame.specs.Frames.{frame_in};
 ghost use Rattle.cx_code.specs.declared.image.Function.{Function};
 ghost use Rattle.cx_code.specs.declared.image.TypeEntry.{TypeEntry as Entry};
 ghost use Rattle.cx_machine.specs.Due.{HasDroppers};
+ghost use Rattle.cx_machine.specs.Kept.{counts_in, counts_due};
 
 use crate::state::Machine;
 use cx_code::{Ending, Event, Image, Value};
@@ -81,6 +82,7 @@ impl Machine {
         ensures keeps { (image : Image) → OnOk result (Keeps image self.old self.new) }
     {
         let exception = self.frame.pending.take();
+        self.kept.drop_one(exception);
         self.unwinding = Some(exception);
         self.after = None;
         Ok(None)
@@ -91,6 +93,7 @@ impl Machine {
     pub fn release(&mut self, alloc: Global, image: &Image) -> Acted
         requires room { self.old.frame.place + 1 < 2 ^ 32 }
         requires counted { IsCounted image.now self.old }
+        requires told { IsTold self.old }
         requires droppers { All (HasDroppers image.now) self.old.held }
         ensures ok { (store : Store) → IfOk result (λ event. IsMade (act image.now does.Release (state_of self.old store)) (state_of self.new store) event) }
         ensures err { (store : Store) → IfErr result (λ stop. IsStop stop (act image.now does.Release (state_of self.old store))) }
@@ -99,7 +102,7 @@ impl Machine {
         let Some(exception) = self.held.pop() else {
             return Err(Stop::MIXED);
         };
-        if self.keeps(exception) {
+        if self.let_go(exception) {
             self.frame.place += 1;
             return Ok(None);
         }
@@ -108,13 +111,14 @@ impl Machine {
         self.enter_with(alloc, image, dropper, address, None)
     }
 
-    /// Whether an exception is held or pending.
-    fn keeps(&self, exception: Exception) -> bool
-        ensures { result ≡ is_kept exception self.now.held (frame_in self.now.frame ∷ self.now.below) }
+    /// An exception is held once less. The answer is whether it is still held, or pending.
+    fn let_go(&mut self, exception: Exception) -> bool
+        requires { counts_in self.old.kept ≡ counts_due (exception ∷ self.old.held) self.old.frame.pending self.old.below }
+        ensures kept { result ≡ is_kept exception self.old.held (frame_in self.old.frame ∷ self.old.below) }
+        ensures told { IsTold self.new }
+        ensures others { self.new ≡ record self.old { kept = self.new.kept } }
     {
-        self.held.has(exception)
-            || self.frame.pending.has(exception)
-            || self.below.has_pending(exception)
+        self.kept.drop_one(exception)
     }
 }
 

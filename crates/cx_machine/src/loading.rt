@@ -47,7 +47,6 @@ pub fn routine_at<'a>(image: &Image, program: &'a Program, index: u32) -> &'a Ro
     requires within { index < length image.now.functions }
     ensures { option_map meaning_of (slice_get image.now.functions index) ≡ Some (known_of result.now) }
 {
-    let _ = image;
     &program.routines[index as usize]
 }
 

@@ -4,7 +4,7 @@ ghost use Rattle.cx_code.specs.Run.{step};
 ghost use Rattle.cx_code.specs.Rules.{IsValid};
 ghost use Rattle.cx_sound.specs.Sound.{IsSound};
 ghost use Rattle.cx_frame.specs.Stores.{Grows};
-ghost use Rattle.cx_machine.specs.States.{state_of, IsCounted, Keeps};
+ghost use Rattle.cx_machine.specs.States.{state_of, IsCounted, IsTold, Keeps};
 ghost use Rattle.cx_machine.specs.Due.{HasRoom};
 ghost use Rattle.cx_machine.specs.Loading.{IsLoaded};
 ghost use Rattle.cx_machine.specs.Start.{IsStarted};
@@ -43,6 +43,7 @@ fn advance<M: Memory, E: Sink>(
     requires loaded { IsLoaded image.now program.now }
     requires room { HasRoom (state_of machine.old (M.store memory.old)) }
     requires counted { IsCounted image.now machine.old }
+    requires told { IsTold machine.old }
     ensures ok { IfOk result (λ ending. IsAdvance image.now (state_of machine.old (M.store memory.old)) (state_of machine.new (M.store memory.new)) ending report.old report.new (E.taken err.old) (E.taken err.new)) }
     ensures front { OnErr result (BeginsWith (report.old.journal ++ appended_by (step image.now (state_of machine.old (M.store memory.old)))) report.new.journal) }
     ensures cause { IfErr result (λ cause. IsRunCause cause (Rose (E.faults err.old) (E.faults err.new))) }

@@ -9,6 +9,7 @@ ghost use Rattle.cx_machine.specs.Outcome.{TakesAll};
 ghost use Rattle.cx_machine.specs.Start.{IsReadCause, IsStarted};
 
 use crate::calls::function_at;
+use crate::kept::Kept;
 use crate::state::{Frames, Input, Machine};
 use cx_code::{Cause, GlobalEntry, Image, Initial, Memory, Value};
 use cx_frame::{Exceptions, Frame, Operands};
@@ -76,6 +77,7 @@ pub fn started<M: Memory>(
         frame,
         below: Frames::new(alloc),
         held: Exceptions::new(alloc),
+        kept: Kept::new(alloc),
         violations: Items::new(alloc),
         thrown: 0,
         input: Input::new(bytes),

@@ -1,9 +1,7 @@
 ghost use Rattle.std.specs.Prelude.{◌≡◌, ◌++◌, [], ◌∷◌, OnOk, OnErr, MatchOption};
-ghost use Rattle.std.specs.List.{list_any};
-ghost use Rattle.cx_code.specs.Act.{is_pending};
 ghost use Rattle.cx_frame.specs.Frames.{frame_in};
-ghost use Rattle.cx_machine.specs.Troubled.{is_troubled};
 
+use crate::kept::Kept;
 use cx_code::{DetectionMode, Semantic};
 use cx_frame::{Exception, Exceptions, Frame};
 use cx_outside::{Items, NoMemory};
@@ -19,6 +17,8 @@ pub struct Machine {
     pub below: Frames,
     /// The exceptions that are held.
     pub held: Exceptions,
+    /// How often each exception is held, or pending in a frame.
+    pub kept: Kept,
     /// The violations that a handler can ask about, in the order in which they were made.
     pub violations: Items<Violated>,
     /// How many exceptions were thrown.
@@ -55,22 +55,17 @@ impl Model for Violated {
 #[derive(Debug, Drop)]
 pub struct Frames {
     frames: Vec<Frame>,
-    /// How many of them have an exception pending. Mostly none has, and then none is looked at.
-    troubled: usize,
 }
 
 impl Model for Frames {
-    ghost use Rattle.std.specs.Prelude.{◌≡◌, List, map, reverse, count_by};
+    ghost use Rattle.std.specs.Prelude.{List, map, reverse};
     ghost use Rattle.cx_code.specs.State.{Frame as Waiting};
 
     ghost Value = { List Waiting };
 
     ghost use Rattle.cx_frame.specs.Frames.{frame_in};
-    ghost use Rattle.cx_machine.specs.Troubled.{is_troubled};
 
     ghost view = { λ it. map frame_in (reverse it.frames.items) };
-
-    ghost invariant = { λ it. it.troubled ≡ count_by is_troubled it.frames.items };
 }
 
 impl Frames {
@@ -79,7 +74,6 @@ impl Frames {
     {
         Frames {
             frames: Vec::new(alloc),
-            troubled: 0,
         }
     }
 
@@ -88,53 +82,16 @@ impl Frames {
     pub fn push(&mut self, frame: Frame) -> Result<(), NoMemory>
         ensures { OnOk result (self.new ≡ frame_in frame ∷ self.old) }
     {
-        let troubled = usize::from(is_troubled(&frame));
-        match self.frames.push(frame) {
-            Ok(()) => {
-                self.troubled += troubled;
-                Ok(())
-            }
-            Err(_) => Err(NoMemory),
-        }
+        self.frames.push(frame)?;
+        Ok(())
     }
 
     #[inline(never)]
     pub fn pop(&mut self) -> Option<Frame>
         ensures { MatchOption result ((self.old ≡ []) × (self.new ≡ [])) (λ frame. self.old ≡ frame_in frame ∷ self.new) }
     {
-        let frame = self.frames.pop()?;
-        self.troubled -= usize::from(is_troubled(&frame));
-        Some(frame)
+        self.frames.pop()
     }
-
-    /// Whether an exception is pending in one of them.
-    #[inline(never)]
-    pub fn has_pending(&self, exception: Exception) -> bool
-        ensures { result ≡ list_any (is_pending exception) self.now }
-    {
-        if self.troubled == 0 {
-            return false;
-        }
-        is_pending(exception, &self.frames)
-    }
-}
-
-/// Whether a frame has an exception pending.
-fn is_troubled(frame: &Frame) -> bool
-    ensures { result ≡ is_troubled frame.now }
-{
-    frame.pending.last().is_some()
-}
-
-fn is_pending(exception: Exception, frames: &[Frame]) -> bool
-    ensures { result ≡ list_any (λ frame. is_pending exception (frame_in frame)) frames.now }
-{
-    for frame in frames {
-        if frame.pending.has(exception) {
-            return true;
-        }
-    }
-    false
 }
 
 /// The input, which contracts see as what is left of it.

@@ -70,6 +70,7 @@ impl Machine {
         ensures keeps { (image : Image) → OnOk result (Keeps image self.old self.new) }
     {
         self.frame.pending.push(exception)?;
+        self.kept.note(exception)?;
         self.frame.operands.cut(region.depth);
         self.frame.place = region.target;
         self.unwinding = None;
@@ -84,6 +85,7 @@ impl Machine {
         ensures keeps { (image : Image) → OnOk result (Keeps image self.old self.new) }
     {
         self.held.push(exception)?;
+        self.kept.note(exception)?;
         self.frame.operands.cut(region.depth);
         self.frame.place = region.target;
         self.unwinding = None;

@@ -3,7 +3,7 @@ use Rattle.std.specs.Io.KnownBytes.{Appends}
 use Rattle.cx_code.specs.Output.{written_out}
 use Rattle.cx_sound.specs.Sound.{IsSound}
 use Rattle.cx_frame.specs.Stores.{IsSmall}
-use Rattle.cx_machine.specs.States.{state_of, IsCounted}
+use Rattle.cx_machine.specs.States.{state_of, IsCounted, IsTold}
 use Rattle.cx_machine.specs.Outcome.{lines_of}
 use Rattle.cx_machine.proofs.Runs.{IsSoFar}
 use Rattle.cx_machine.proofs.running.run_steps.Given as goal
@@ -13,6 +13,7 @@ invariant-loop-taken g l = record {
   so_far : IsSoFar l.image l.fn.machine.input l.taken l.report.journal (state_of l.machine (g.M.Memory.store l.memory));
   sound : IsSound l.image (state_of l.machine (g.M.Memory.store l.memory));
   counted : IsCounted l.image l.machine;
+  told : IsTold l.machine;
   small : IsSmall (g.M.Memory.store l.memory);
   next : (g.M.Memory.store l.memory).next ≤ 1 + length l.image.globals + l.taken;
   thrown : l.machine.thrown ≤ l.taken;
