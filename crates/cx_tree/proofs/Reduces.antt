@@ -9,5 +9,5 @@ use Rattle.cx_values.specs.Values.{Values, reduce}
 
 -- the second clause stands for one for each of the other acts
 pub reduces : (a : Act) (vs ws : Values) → reduce a vs ≡ Some ws → Tops (needs a) vs
-reduces DoLeaf vs ws h = taken_tops (needs DoLeaf) _ vs ws h
-reduces a vs ws h = taken_tops (needs a) _ vs ws h
+reduces DoLeaf = taken_tops (needs DoLeaf) _
+reduces a = taken_tops (needs a) _

@@ -44,8 +44,12 @@ Steps (Some Eats) o k vs j us = (bare k o ≡ bare_eats j) × TopMakes k vs us
 Steps (Some Stays) o k vs j us = (bare k o ≡ bare_stays) × (k ≢ [])
 Steps None o k vs j us = (k ≡ []) × (us ≡ vs)
 
+-- so it does once the mark at the place is put on the values
+unfoldable pub Takes : Marks → ℕ → List Symbol → Values → Type 0
+Takes ts p k vs = (m : Mark) × (slice_get ts p ≡ Some m) × Stands ts (p + 1) k (mark_val m p ∷ vs)
+
 -- what is reached before the mark at the place is put on the values
 abbrev pub Settles : Settled → Marks → ℕ → List Symbol → Values → Type 0
-Settles Ate ts p k vs = (m : Mark) × (slice_get ts p ≡ Some m) × Stands ts (p + 1) k (mark_val m p ∷ vs)
+Settles Ate ts p k vs = Takes ts p k vs
 Settles Ended ts p k vs = Stands ts p [] vs
 Settles Stuck ts p k vs = IsPlace ts p

@@ -80,7 +80,7 @@ fn one_step(
 }
 
 // The steps up to the mark at a place, which is taken off the list and not put on the values; or up to where none is left.
-#[tactic(auto, using(crate::proofs::Stands::top_ready, crate::proofs::Stands::goes, crate::proofs::Stands::eats, crate::proofs::Stands::stays_at))]
+#[tactic(auto, using(crate::proofs::Stands::top_ready, crate::proofs::Stands::goes, crate::proofs::Stands::eats))]
 fn settle(
     alloc: Global,
     symbols: &mut Vec<Symbol>,
@@ -114,7 +114,7 @@ fn keep(values: &mut Vec<Value>, mark: Mark, at: u32) -> Result<(), ParseFault>
 }
 
 // The steps up to the end of the mark at a place.
-#[tactic(auto, using(crate::proofs::Stands::ended_early))]
+#[tactic(auto, using(crate::proofs::Stands::kept))]
 fn read(
     alloc: Global,
     symbols: &mut Vec<Symbol>,
@@ -128,7 +128,10 @@ fn read(
     ensures { MatchResult result (λ _. Stands marks.now (at + 1) (reverse symbols.new.items) (values_of values.new.items)) (IsFault marks.now) }
 {
     match settle(alloc, symbols, values, marks, at) {
-        Ok(Settled::Ate) => keep(values, marks[at], at as u32),
+        Ok(Settled::Ate) => {
+            keep(values, marks[at], at as u32)?;
+            Ok(())
+        }
         Ok(Settled::Ended) => Err(ParseFault::SyntaxAt(at)),
         Ok(Settled::Stuck) => Err(ParseFault::SyntaxAt(at)),
         Err(_) => Err(ParseFault::OutOfMemory),
@@ -136,7 +139,7 @@ fn read(
 }
 
 // The steps after the last mark, and the tree that is then the only value.
-#[tactic(auto, using(crate::proofs::Stands::top_unit, crate::proofs::Stands::the_unit, crate::proofs::Stands::none_left))]
+#[tactic(auto, using(crate::proofs::Stands::top_unit, crate::proofs::Stands::none_left))]
 fn read_end(
     alloc: Global,
     symbols: &mut Vec<Symbol>,
