@@ -21,11 +21,14 @@ use cx_values::pop::{pop_unit, push};
 use cx_values::{PlacedMark, Value};
 use std::alloc::{AllocError, Global};
 
-/// How the stacks stand when no more steps are made before a mark.
+/// How the stacks stand when no more steps are made before a mark is taken, or before the end; this project's own.
 #[derive(Clone, Copy)]
 pub enum Settled {
+    /// The mark is taken, and isn't on the values yet.
     Ate,
+    /// No symbol is left.
     Ended,
+    /// The symbol on top doesn't take the mark.
     Stuck,
 }
 
@@ -79,7 +82,7 @@ fn one_step(
     }
 }
 
-// The steps up to the mark at a place, which is taken off the list and not put on the values; or up to where none is left.
+// The steps up to the mark at a place, which is taken and not put on the values; past the last mark, up to the end.
 #[tactic(auto, using(crate::proofs::Stands::top_ready, crate::proofs::Stands::goes, crate::proofs::Stands::eats))]
 fn settle(
     alloc: Global,
@@ -157,7 +160,11 @@ fn read_end(
     }
 }
 
-/// The tree of the marks of a unit, or the exact place of its syntax fault.
+/// The tree of the marks of a unit: the only shaped one that spells them, each at its place in the list, after [gram].
+/// The boxes and lists of the tree are of `alloc`. The list is short enough that a place is a `u32`.
+///
+/// Where no tree spells the list the error is `SyntaxAt`, with the length of the longest prefix that begins a
+/// grammatical list (this project's own); `OutOfMemory` is want of memory alone.
 #[tactic(auto, using(crate::proofs::Stands::first))]
 pub fn parse(alloc: Global, marks: &[Mark]) -> Result<UnitTree, ParseFault>
     requires few { length marks.now < 2 ^ 32 }
