@@ -1,5 +1,5 @@
 -- A step of the machine, from what it does to the symbols and what the symbol on top makes of the values.
-use Rattle.std.proofs.Common.{◌≡◌, Bool, true, false, cond, List, [], ◌∷◌, ◌++◌, Some, None, refl, ◌∙◌, ap}
+use Rattle.std.proofs.Common.{◌≡◌, Bool, true, false, cond, List, [], ◌∷◌, Some, None, refl, ◌∙◌, ap}
 use Rattle.cx_table.specs.declared.symbol.Kind.{Kind}
 use Rattle.cx_table.specs.declared.symbol.Symbol.{Symbol}
 use Rattle.cx_table.specs.declared.symbol.Symbol.TheVariants.{Expect, Make, Read}
@@ -9,7 +9,7 @@ use Rattle.cx_table.specs.Moves.{Move, eat, halt, move, push}
 use Rattle.cx_table.specs.Sorts.{fits}
 use Rattle.cx_table.specs.Steps.{bare, bare_eats, bare_goes, bare_moved, bare_stays}
 use Rattle.cx_tree.specs.Stacks.{TopMakes}
-use Rattle.cx_values.specs.Values.{Values, reduce}
+use Rattle.cx_values.specs.Values.{Values}
 
 token_goes : (b : Bool) (k j : List Symbol) → cond b (bare_eats k) bare_stays ≡ bare_goes j → ⊥
 token_goes true k j h = cc
