@@ -1,0 +1,4 @@
+mod Taken
+mod Reduces
+mod Next
+mod Stands
