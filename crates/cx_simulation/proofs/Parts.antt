@@ -24,7 +24,7 @@ module _ {C : Type 0} (step : C → Progress C) where
   halts_one c ending event t e = ap (λ p. onwards step p t (exec step 0) halted) e
 
   -- what is told before a step, and behind it
-  told_on : (n : ℕ) (c d : C) (event : Option Event) (now later : List Evaluation) → step c ≡ goes d event → now ≡ begins_ahead step n c → now ≡ begun event later → later ≡ begins_ahead step (n - 1) d
+  pub told_on : (n : ℕ) (c d : C) (event : Option Event) (now later : List Evaluation) → step c ≡ goes d event → now ≡ begins_ahead step n c → now ≡ begun event later → later ≡ begins_ahead step (n - 1) d
   unfolding begins_ahead
   told_on zero c d event now later e told here = none event (sym here ∙ told)
     where

@@ -1,0 +1,6 @@
+mod Numbers
+mod Bits
+mod Places
+mod Operators
+mod Expressions
+mod Operands

@@ -1,0 +1,5 @@
+pub mod Values
+pub mod Configuration
+pub mod Operations
+pub mod Stands
+pub mod Laws

@@ -1,0 +1,17 @@
+ghost use Rattle.cx_emit.specs.Laws.{ExpressionsAreFollowed, OperandsAreFollowed};
+
+/// Where code stands for an expression without calls and names, the machine follows its meaning there: it comes to the end
+/// of the code with the value on top of the operands, or both end alike by the same undefined behaviour. Each unit of the
+/// budget has an instruction, and at most 16 instructions fewer than a unit pays for are left over.
+///
+/// Source: this project's own, for [expr.mul] to [expr.or] and [expr.unary.op] of the C++ draft.
+pub fn expressions_are_followed()
+    ensures { ExpressionsAreFollowed }
+{}
+
+/// The same for an operand, which is read [conv.lval] and converted [conv.integral].
+///
+/// Source: this project's own, for [conv] of the C++ draft.
+pub fn operands_are_followed()
+    ensures { OperandsAreFollowed }
+{}

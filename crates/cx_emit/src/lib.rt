@@ -1,0 +1,6 @@
+//! Which code stands for a typed program, and that the machine follows the program there.
+#![tactic(auto)]
+
+mod laws;
+
+pub use laws::{expressions_are_followed, operands_are_followed};
