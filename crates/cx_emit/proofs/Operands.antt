@@ -79,34 +79,34 @@ loads_object (Some told) (Some leaves) i h = loads_leaf told leaves i h
 pub loads : (s : source.State) (m : State) (function : ℕ) (a : Address) → Agrees function s m → LoadsAs (value_of (leaf_at s.store a)) (loaded m.store a.object a.leaf)
 loads s m function a agrees = loads_object (leaves_of s.store a.object) (m.store.leaves a.object) a.leaf (agrees.same_store a.object)
 
-module _ (image : Image) (function : ℕ) (outer : List (ℕ × Region)) where
+module _ (image : Image) (function : ℕ) (Fly : source.State → State → source.Exception → State → source.State → Type 0) where
   module _ (s : source.State) (m : State) (budget from to : ℕ) (operands : List Value) (a : Agrees function s m) where
     -- the machine's conversion puts a number there
     converts : (type : IntegerType) (w : Value) (n : ℤ) → Has image function from (does.Convert (scalar_of type)) to → value_as (scalar_of type) w ≡ Some n
-        → PutsValue image function outer s m budget from to (w ∷ operands) operands (on (number n) (record s { budget = budget }))
+        → PutsValue image function Fly s m budget from to (w ∷ operands) operands (on (number n) (record s { budget = budget }))
     converts type w n h e =
-        puts image function outer s m budget from to (w ∷ operands) operands (number n) (values.Number n) a refl h.next
-        (at_place image function outer s m from to (w ∷ operands) (does.Convert (scalar_of type)) a h
+        puts image function Fly s m budget from to (w ∷ operands) operands (number n) (values.Number n) a refl h.next
+        (at_place image function Fly s m from to (w ∷ operands) (does.Convert (scalar_of type)) a h
         ∙ ap (λ r. progress image (on_some r mixed (λ z. next (running_at m from (w ∷ operands)) (values.Number z ∷ operands)))) e)
 
     conversion_steps : (type : IntegerType) (v : store.Value) (w : Value) → IsValue v w → Has image function from (does.Convert (scalar_of type)) to
-        → PutsValue image function outer s m budget from to (w ∷ operands) operands (converted_to (Some type) v (record s { budget = budget }))
+        → PutsValue image function Fly s m budget from to (w ∷ operands) operands (converted_to (Some type) v (record s { budget = budget }))
     unfolding either giving ends throws
     conversion_steps type v w is h = by_number (value_number type v) refl
       where
         by_number : (r : Option ℤ) → value_number type v ≡ r
-            → PutsValue image function outer s m budget from to (w ∷ operands) operands (either (some r) (λ n. giving (number n)) throws (record s { budget = budget }))
+            → PutsValue image function Fly s m budget from to (w ∷ operands) operands (either (some r) (λ n. giving (number n)) throws (record s { budget = budget }))
         by_number None e = λ other. absurd (other refl)
         by_number (Some n) e = converts type w n h (same_value_number type v w n is e)
 
   pub conversion_follows : (conversion : Option IntegerType) (from to : ℕ) (operands : List Value) → StandsConversion image function conversion from to → (v : store.Value) (w : Value) → IsValue v w
       → (n : ℕ) (s : source.State) (m : State) → Agrees function s m → s.begins ≡ begins_ahead (image_step image) n (running_at m from (w ∷ operands))
-      → Follows (image_step image) n s (running_at m from (w ∷ operands)) (record { saves = 0; owes = 1; late = 1; hand = 0 }) (Gives function to operands s m) (Flies image function outer s m) (converted_to conversion v s)
+      → Follows (image_step image) n s (running_at m from (w ∷ operands)) (record { saves = 0; owes = 1; late = 1; hand = 0 }) (Gives function to operands s m) (Fly s m) (converted_to conversion v s)
   conversion_follows None from to operands st v w is n s m a told =
-      follows_gives (image_step image) n s (running_at m from (w ∷ operands)) _ (Gives function to operands s m) (Flies image function outer s m) v (omega arith)
+      follows_gives (image_step image) n s (running_at m from (w ∷ operands)) _ (Gives function to operands s m) (Fly s m) v (omega arith)
       (record { machine = m; value = w; is_there = ap (λ p. running_at m p (w ∷ operands)) (sym st); same_value = is; agrees = a; kept = all_kept s m }) told
   conversion_follows (Some type) from to operands st v w is n s m a told =
-      follows_one (image_step image) n s (running_at m from (w ∷ operands)) _ (Gives function to operands s m) (Flies image function outer s m) (converted_to (Some type) v s) (omega arith) (omega arith) told
+      follows_one (image_step image) n s (running_at m from (w ∷ operands)) _ (Gives function to operands s m) (Fly s m) (converted_to (Some type) v s) (omega arith) (omega arith) told
       (conversion_steps s m s.budget from to operands a type v w is st)
 
   -- ---- reads
@@ -116,7 +116,7 @@ module _ (image : Image) (function : ℕ) (outer : List (ℕ × Region)) where
     of_read = record { saves = 0; owes = 2; late = 2; hand = 0 }
 
     abbrev Reads : ℕ → ℕ → Value → source.Outcome store.Value → Type 0
-    Reads from to w r = Follows (image_step image) n s (running_at m from (w ∷ operands)) of_read (Gives function to operands s m) (Flies image function outer s m) r
+    Reads from to w r = Follows (image_step image) n s (running_at m from (w ∷ operands)) of_read (Gives function to operands s m) (Fly s m) r
 
     abbrev Told : ℕ → Value → Type 0
     Told from w = s.begins ≡ begins_ahead (image_step image) n (running_at m from (w ∷ operands))
@@ -128,23 +128,23 @@ module _ (image : Image) (function : ℕ) (outer : List (ℕ × Region)) where
     -- a load that ends the run
     reads_ends : (from to mid : ℕ) (w : Value) (kind : Kind) → Told from w → image_step image (running_at m from (w ∷ operands)) ≡ halts (Undefined kind) None → Reads from to w (over (ended (Undefined kind)) s.trace)
     reads_ends from to mid w kind told h =
-        follows_one (image_step image) n s (running_at m from (w ∷ operands)) of_read (Gives function to operands s m) (Flies image function outer s m) (over (ended (Undefined kind)) s.trace) (omega arith) (omega arith) told
+        follows_one (image_step image) n s (running_at m from (w ∷ operands)) of_read (Gives function to operands s m) (Fly s m) (over (ended (Undefined kind)) s.trace) (omega arith) (omega arith) told
         (λ other. record { event = None; halts_so = h; noted_so = refl })
 
     -- a load alone
     reads_one : (from to : ℕ) (v : store.Value) (w x : Value) → Told from w → IsValue v x → to ≡ from + 1 → image_step image (running_at m from (w ∷ operands)) ≡ goes (running_at m (from + 1) (x ∷ operands)) None → Reads from to w (on v s)
     reads_one from to v w x told is e h =
-        follows_one (image_step image) n s (running_at m from (w ∷ operands)) of_read (Gives function to operands s m) (Flies image function outer s m) (on v s) (omega arith) (omega arith) told
-        (puts image function outer s m s.budget from to (w ∷ operands) operands v x agrees is e h)
+        follows_one (image_step image) n s (running_at m from (w ∷ operands)) of_read (Gives function to operands s m) (Fly s m) (on v s) (omega arith) (omega arith) told
+        (puts image function Fly s m s.budget from to (w ∷ operands) operands v x agrees is e h)
 
     -- a load, and then the conversion of what stands less 2^64
     reads_two : (from mid to : ℕ) (k : ℤ) (w x : Value) → Told from w → value_as scalars.UnsignedLongLong x ≡ Some k → mid ≡ from + 1 → Has image function mid (does.Convert scalars.UnsignedLongLong) to
         → image_step image (running_at m from (w ∷ operands)) ≡ goes (running_at m (from + 1) (x ∷ operands)) None → Reads from to w (on (number k) s)
     reads_two from mid to k w x told is e h goes_so =
         let there : image_step image (running_at m from (w ∷ operands)) ≡ goes (running_at m mid (x ∷ operands)) None = goes_so ∙ ap (λ p. goes (running_at m p (x ∷ operands)) None) (sym e) in
-        follows_step (image_step image) n s (running_at m from (w ∷ operands)) (running_at m mid (x ∷ operands)) (record { saves = 0; owes = 1; late = 1; hand = 0 }) of_read (Gives function to operands s m) (Flies image function outer s m) (on (number k) s)
+        follows_step (image_step image) n s (running_at m from (w ∷ operands)) (running_at m mid (x ∷ operands)) (record { saves = 0; owes = 1; late = 1; hand = 0 }) of_read (Gives function to operands s m) (Fly s m) (on (number k) s)
         there (omega arith) (omega arith) (omega arith)
-        (follows_one (image_step image) (n - 1) s (running_at m mid (x ∷ operands)) _ (Gives function to operands s m) (Flies image function outer s m) (on (number k) s) (omega arith) (omega arith)
+        (follows_one (image_step image) (n - 1) s (running_at m mid (x ∷ operands)) _ (Gives function to operands s m) (Fly s m) (on (number k) s) (omega arith) (omega arith)
         (told_on (image_step image) n (running_at m from (w ∷ operands)) (running_at m mid (x ∷ operands)) None s.begins s.begins there told refl)
         (converts s m s.budget mid to operands agrees types.UnsignedLongLong x k h is))
 
@@ -206,17 +206,17 @@ module _ (image : Image) (function : ℕ) (outer : List (ℕ × Region)) where
     load_reads type from to (violation k) w st is told = absurd is
     load_reads type from to null w st is told =
         let load = first_load type from to st in
-        reads_ends from to to w Null told (ap (λ w. image_step image (running_at m from (w ∷ operands))) is ∙ at_place image function outer s m from load.0 (values.Null ∷ operands) does.Load agrees load.1)
+        reads_ends from to to w Null told (ap (λ w. image_step image (running_at m from (w ∷ operands))) is ∙ at_place image function Fly s m from load.0 (values.Null ∷ operands) does.Load agrees load.1)
     load_reads type from to (address a) w st is told =
         let load = first_load type from to st in
         subst (λ w. Reads from to w (read_as (Some type) (address a) s)) (sym is)
         (address_reads type from to a st (subst (Told from) is told) (value_of (leaf_at s.store a)) (loaded m.store a.object a.leaf) (loads s m function a agrees)
-        (at_place image function outer s m from load.0 (values.Address a.object a.leaf ∷ operands) does.Load agrees load.1))
+        (at_place image function Fly s m from load.0 (values.Address a.object a.leaf ∷ operands) does.Load agrees load.1))
 
   pub read_follows : (conversion : Option ObjectType) (from to : ℕ) (operands : List Value) → StandsRead image function conversion from to → (v : store.Value) (w : Value) → IsValue v w
       → (n : ℕ) (s : source.State) (m : State) → Agrees function s m → s.begins ≡ begins_ahead (image_step image) n (running_at m from (w ∷ operands))
-      → Follows (image_step image) n s (running_at m from (w ∷ operands)) (record { saves = 0; owes = 2; late = 2; hand = 0 }) (Gives function to operands s m) (Flies image function outer s m) (read_as conversion v s)
+      → Follows (image_step image) n s (running_at m from (w ∷ operands)) (record { saves = 0; owes = 2; late = 2; hand = 0 }) (Gives function to operands s m) (Fly s m) (read_as conversion v s)
   read_follows None from to operands st v w is n s m a told =
-      follows_gives (image_step image) n s (running_at m from (w ∷ operands)) _ (Gives function to operands s m) (Flies image function outer s m) v (omega arith)
+      follows_gives (image_step image) n s (running_at m from (w ∷ operands)) _ (Gives function to operands s m) (Fly s m) v (omega arith)
       (record { machine = m; value = w; is_there = ap (λ p. running_at m p (w ∷ operands)) (sym st); same_value = is; agrees = a; kept = all_kept s m }) told
   read_follows (Some type) from to operands st v w is n s m a told = load_reads n s m operands a type from to v w st is told

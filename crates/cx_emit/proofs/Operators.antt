@@ -65,22 +65,22 @@ module _ (image : Image) where
   unary_acts unary.Not type o m from x operands e = ap (λ p. act image p (running_at m from (values.Number x ∷ operands))) (some_is (does.Not (scalar_of type)) o e)
   unary_acts unary.Complement type o m from x operands e = ap (λ p. act image p (running_at m from (values.Number x ∷ operands))) (computing_is type (does.Complement (scalar_of type)) o e).0
 
-module _ (image : Image) (function : ℕ) (outer : List (ℕ × Region)) where
+module _ (image : Image) (function : ℕ) (Fly : source.State → State → source.Exception → State → source.State → Type 0) where
   pub unary_steps : (operator : UnaryOperator) (type : IntegerType) (o : Operation) (s : source.State) (m : State) (budget from to : ℕ) (operands : List Value) (v : store.Value) (w : Value)
       → Agrees function s m → Has image function from o to → unary_operation operator type ≡ Some o → IsValue v w
-      → PutsValue image function outer s m budget from to (w ∷ operands) operands (unary_operated operator type v (record s { budget = budget }))
+      → PutsValue image function Fly s m budget from to (w ∷ operands) operands (unary_operated operator type v (record s { budget = budget }))
   unfolding either gives ends throws
   unary_steps operator type o s m budget from to operands (number x) w a h e is =
-      subst (λ w. PutsValue image function outer s m budget from to (w ∷ operands) operands (unary_operated operator type (number x) (record s { budget = budget }))) (sym is) (by_range (in_range type x) refl)
+      subst (λ w. PutsValue image function Fly s m budget from to (w ∷ operands) operands (unary_operated operator type (number x) (record s { budget = budget }))) (sym is) (by_range (in_range type x) refl)
     where
       before : List Value
       before = values.Number x ∷ operands
 
       by_range : (b : Bool) → in_range type x ≡ b
-          → PutsValue image function outer s m budget from to (values.Number x ∷ operands) operands ((either (if b then gives x else undefined Mixed) (λ y. number_given (unary_number operator type y)) throws) (record s { budget = budget }))
+          → PutsValue image function Fly s m budget from to (values.Number x ∷ operands) operands ((either (if b then gives x else undefined Mixed) (λ y. number_given (unary_number operator type y)) throws) (record s { budget = budget }))
       by_range true f =
-          computed_steps image function outer s m budget from to (values.Number x ∷ operands) operands (computed_of_one operator (scalar_of type) x) (unary_number operator type x) a h.next (same_unary operator type o x e f)
-          (at_place image function outer s m from to (values.Number x ∷ operands) o a h ∙ ap (λ t. progress image t) (unary_acts image operator type o m from x operands e))
+          computed_steps image function Fly s m budget from to (values.Number x ∷ operands) operands (computed_of_one operator (scalar_of type) x) (unary_number operator type x) a h.next (same_unary operator type o x e f)
+          (at_place image function Fly s m from to (values.Number x ∷ operands) o a h ∙ ap (λ t. progress image t) (unary_acts image operator type o m from x operands e))
       by_range false f = λ other. absurd (other refl)
   unary_steps operator type o s m budget from to operands (address x) w a h e is = λ other. absurd (other refl)
   unary_steps operator type o s m budget from to operands null w a h e is = λ other. absurd (other refl)
@@ -171,53 +171,53 @@ equal_pointers (address a) (violation y) v w same p q e = absurd q
 equal_pointers null (number y) v w same p q e = absurd (cc)
 equal_pointers null (violation y) v w same p q e = absurd q
 
-module _ (image : Image) (function : ℕ) (outer : List (ℕ × Region)) where
+module _ (image : Image) (function : ℕ) (Fly : source.State → State → source.Exception → State → source.State → Type 0) where
   module _ (o : Operation) (s : source.State) (m : State) (budget from to : ℕ) (operands : List Value) (a : Agrees function s m) (h : Has image function from o to) where
     numbers_step : (operator : BinaryOperator) (type : IntegerType) (x y : ℤ) → binary_operation operator type ≡ Some o
-        → PutsValue image function outer s m budget from to (values.Number y ∷ values.Number x ∷ operands) operands (numbers_operated operator type x y (record s { budget = budget }))
+        → PutsValue image function Fly s m budget from to (values.Number y ∷ values.Number x ∷ operands) operands (numbers_operated operator type x y (record s { budget = budget }))
     unfolding ends
     numbers_step operator type x y e = by_fit (operands_fit operator type x y) refl
       where
         by_fit : (b : Bool) → operands_fit operator type x y ≡ b
-            → PutsValue image function outer s m budget from to (values.Number y ∷ values.Number x ∷ operands) operands ((if b then number_given (binary_number operator type x y) else undefined Mixed) (record s { budget = budget }))
+            → PutsValue image function Fly s m budget from to (values.Number y ∷ values.Number x ∷ operands) operands ((if b then number_given (binary_number operator type x y) else undefined Mixed) (record s { budget = budget }))
         by_fit true f =
-            computed_steps image function outer s m budget from to (values.Number y ∷ values.Number x ∷ operands) operands (computed_of_two operator (scalar_of type) x y) (binary_number operator type x y) a h.next (same_binary operator type o x y e f)
-            (at_place image function outer s m from to (values.Number y ∷ values.Number x ∷ operands) o a h ∙ ap (λ t. progress image t) (binary_acts image type o m from x y operands operator e))
+            computed_steps image function Fly s m budget from to (values.Number y ∷ values.Number x ∷ operands) operands (computed_of_two operator (scalar_of type) x y) (binary_number operator type x y) a h.next (same_binary operator type o x y e f)
+            (at_place image function Fly s m from to (values.Number y ∷ values.Number x ∷ operands) o a h ∙ ap (λ t. progress image t) (binary_acts image type o m from x y operands operator e))
         by_fit false f = λ other. absurd (other refl)
 
     -- the number that a comparison of equality puts there
     puts_truth : (v w : Value) (same b : Bool) → (f : Bool → Bool) → equal_values v w ≡ Some same → f same ≡ b
         → image_step image (running_at m from (w ∷ v ∷ operands)) ≡ progress image (on_some (equal_values v w) mixed (λ equal. next (running_at m from (w ∷ v ∷ operands)) (values.Number (truth (f equal)) ∷ operands)))
-        → PutsValue image function outer s m budget from to (w ∷ v ∷ operands) operands (on (number (truth_number b)) (record s { budget = budget }))
+        → PutsValue image function Fly s m budget from to (w ∷ v ∷ operands) operands (on (number (truth_number b)) (record s { budget = budget }))
     puts_truth v w same b f e g k =
-        puts image function outer s m budget from to (w ∷ v ∷ operands) operands (number (truth_number b)) (values.Number (truth b)) a refl h.next
+        puts image function Fly s m budget from to (w ∷ v ∷ operands) operands (number (truth_number b)) (values.Number (truth b)) a refl h.next
         (k ∙ ap (λ r. progress image (on_some r mixed (λ equal. next (running_at m from (w ∷ v ∷ operands)) (values.Number (truth (f equal)) ∷ operands)))) e
         ∙ ap (λ c. progress image (next (running_at m from (w ∷ v ∷ operands)) (values.Number (truth c) ∷ operands))) g)
 
     pointers_step : (operator : BinaryOperator) (type : IntegerType) (x y : store.Value) (v w : Value) → IsValue x v → IsValue y w → binary_operation operator type ≡ Some o
-        → PutsValue image function outer s m budget from to (w ∷ v ∷ operands) operands (pointers_operated operator x y (record s { budget = budget }))
+        → PutsValue image function Fly s m budget from to (w ∷ v ∷ operands) operands (pointers_operated operator x y (record s { budget = budget }))
     unfolding either gives ends throws
     pointers_step operator type x y v w p q e = by_same (same_pointer x y) refl
       where
         compared : (operator : BinaryOperator) (same : Bool) → binary_operation operator type ≡ Some o → equal_values v w ≡ Some same
-            → PutsValue image function outer s m budget from to (w ∷ v ∷ operands) operands (either (some (pointers_compared operator same)) (λ n. gives (number n)) throws (record s { budget = budget }))
+            → PutsValue image function Fly s m budget from to (w ∷ v ∷ operands) operands (either (some (pointers_compared operator same)) (λ n. gives (number n)) throws (record s { budget = budget }))
         compared binary.Equal same e f =
             puts_truth v w same same (λ c. c) f refl
-            (at_place image function outer s m from to (w ∷ v ∷ operands) o a h ∙ ap (λ p. progress image (act image p (running_at m from (w ∷ v ∷ operands)))) (some_is does.Equal o e))
+            (at_place image function Fly s m from to (w ∷ v ∷ operands) o a h ∙ ap (λ p. progress image (act image p (running_at m from (w ∷ v ∷ operands)))) (some_is does.Equal o e))
         compared binary.NotEqual same e f =
             puts_truth v w same (not same) not f refl
-            (at_place image function outer s m from to (w ∷ v ∷ operands) o a h ∙ ap (λ p. progress image (act image p (running_at m from (w ∷ v ∷ operands)))) (some_is does.NotEqual o e))
+            (at_place image function Fly s m from to (w ∷ v ∷ operands) o a h ∙ ap (λ p. progress image (act image p (running_at m from (w ∷ v ∷ operands)))) (some_is does.NotEqual o e))
         compared operator same e f = λ other. absurd (other refl)
 
         by_same : (r : Option Bool) → same_pointer x y ≡ r
-            → PutsValue image function outer s m budget from to (w ∷ v ∷ operands) operands (either (some r) (λ same. either (some (pointers_compared operator same)) (λ n. gives (number n)) throws) throws (record s { budget = budget }))
+            → PutsValue image function Fly s m budget from to (w ∷ v ∷ operands) operands (either (some r) (λ same. either (some (pointers_compared operator same)) (λ n. gives (number n)) throws) throws (record s { budget = budget }))
         by_same None f = λ other. absurd (other refl)
         by_same (Some same) f = compared operator same e (equal_pointers x y v w same p q f)
 
     pub binary_steps : (operator : BinaryOperator) (type : IntegerType) (x y : store.Value) (v w : Value) → IsValue x v → IsValue y w → binary_operation operator type ≡ Some o
-        → PutsValue image function outer s m budget from to (w ∷ v ∷ operands) operands (operated operator type x y (record s { budget = budget }))
+        → PutsValue image function Fly s m budget from to (w ∷ v ∷ operands) operands (operated operator type x y (record s { budget = budget }))
     binary_steps operator type (number x) (number y) v w p q e =
-        subst (λ w. PutsValue image function outer s m budget from to (w ∷ v ∷ operands) operands (numbers_operated operator type x y (record s { budget = budget }))) (sym q)
-        (subst (λ v. PutsValue image function outer s m budget from to (values.Number y ∷ v ∷ operands) operands (numbers_operated operator type x y (record s { budget = budget }))) (sym p) (numbers_step operator type x y e))
+        subst (λ w. PutsValue image function Fly s m budget from to (w ∷ v ∷ operands) operands (numbers_operated operator type x y (record s { budget = budget }))) (sym q)
+        (subst (λ v. PutsValue image function Fly s m budget from to (values.Number y ∷ v ∷ operands) operands (numbers_operated operator type x y (record s { budget = budget }))) (sym p) (numbers_step operator type x y e))
     binary_steps operator type (number x) y v w p q e = pointers_step operator type (number x) y v w p q e
     binary_steps operator type x y v w p q e = pointers_step operator type x y v w p q e

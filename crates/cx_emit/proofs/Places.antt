@@ -15,22 +15,23 @@ use Rattle.cx_core.specs.Store as store
 use Rattle.cx_core.specs.Outcome as source
 use Rattle.cx_core.specs.Outcome.{on, over, Does, either, gives, throws, ends}
 use Rattle.cx_core.specs.Operators.{number_given}
-use Rattle.cx_simulation.specs.Machine.{goes}
+use Rattle.cx_simulation.specs.Machine.{goes, begins_ahead}
 use Rattle.cx_simulation.specs.ImageMachine.{progress, image_step}
-use Rattle.cx_simulation.specs.Parts.{StepsTo, Steps}
+use Rattle.cx_simulation.specs.Parts.{Account, Follows, StepsTo, Steps}
 use Rattle.cx_emit.specs.Values.{IsValue}
 use Rattle.cx_emit.specs.Configuration.{running_at, operation_at, Has, Agrees, AreKept, Gives, Flies}
 use Rattle.cx_emit.specs.Stands.{HasSome}
 use Rattle.cx_emit.proofs.Numbers.{as_result}
 
 pub all_kept : (s : source.State) (m : State) → AreKept s m s m
-all_kept s m = record { same_frame = refl; same_living = refl; same_held = refl; same_slots = refl; same_pending = refl; same_below = refl; same_exceptions = refl }
+all_kept s m = record { same_frame = refl; same_living = refl; same_temporaries = refl; same_held = refl; same_slots = refl; same_pending = refl; same_below = refl; same_exceptions = refl }
 
 pub kept_on : (s t u : source.State) (m d e : State) → AreKept s m t d → AreKept t d u e → AreKept s m u e
 kept_on s t u m d e a b =
     record {
       same_frame = b.same_frame ∙ a.same_frame;
       same_living = b.same_living ∙ a.same_living;
+      same_temporaries = b.same_temporaries ∙ a.same_temporaries;
       same_held = b.same_held ∙ a.same_held;
       same_slots = b.same_slots ∙ a.same_slots;
       same_pending = b.same_pending ∙ a.same_pending;
@@ -65,7 +66,7 @@ pub has_some : (image : Image) (function from to : ℕ) (o : Option Operation) �
 has_some image function from to None h = absurd h
 has_some image function from to (Some operation) h = (operation, refl, h)
 
-module _ (image : Image) (function : ℕ) (outer : List (ℕ × Region)) where
+module _ (image : Image) (function : ℕ) (Fly : source.State → State → source.Exception → State → source.State → Type 0) where
   pub at_place : (s : source.State) (m : State) (from to : ℕ) (operands : List Value) (operation : Operation) → Agrees function s m → Has image function from operation to
       → image_step image (running_at m from operands) ≡ progress image (act image operation (running_at m from operands))
   unfolding step
@@ -94,12 +95,18 @@ module _ (image : Image) (function : ℕ) (outer : List (ℕ × Region)) where
           is_there = ap (λ p. running_at m p (w ∷ operands)) (sym e);
           same_value = is;
           agrees = with_budget s m budget a;
-          kept = record { same_frame = refl; same_living = refl; same_held = refl; same_slots = refl; same_pending = refl; same_below = refl; same_exceptions = refl };
+          kept = record { same_frame = refl; same_living = refl; same_temporaries = refl; same_held = refl; same_slots = refl; same_pending = refl; same_below = refl; same_exceptions = refl };
         };
       }
 
+  -- from the one place to the other the code does what a part means that gives a value
+  abbrev pub Valued : Account → Does store.Value → ℕ → ℕ → Type 0
+  Valued account part from to =
+      (n : ℕ) (operands : List Value) (s : source.State) (m : State) → Agrees function s m → s.begins ≡ begins_ahead (image_step image) n (running_at m from operands)
+      → Follows (image_step image) n s (running_at m from operands) account (Gives function to operands s m) (Fly s m) (part s)
+
   abbrev pub PutsValue : source.State → State → ℕ → ℕ → ℕ → List Value → List Value → source.Outcome store.Value → Type 0
-  PutsValue s m budget from to before operands r = Steps (image_step image) (record s { budget = budget }) (running_at m from before) (Gives function to operands s m) (Flies image function outer s m) r
+  PutsValue s m budget from to before operands r = Steps (image_step image) (record s { budget = budget }) (running_at m from before) (Gives function to operands s m) (Fly s m) r
 
   -- what an operator gives, or why it is undefined
   pub computed_steps : (s : source.State) (m : State) (budget from to : ℕ) (before operands : List Value) (c : Computed) (r : Result ℤ Kind) → Agrees function s m → to ≡ from + 1 → as_result c ≡ r

@@ -38,6 +38,7 @@ pub record Agrees (function : ℕ) (s : source.State) (m : State) : Type 0 where
 pub record AreKept (s : source.State) (m : State) (t : source.State) (d : State) : Type 0 where
   pub same_frame : t.frame ≡ s.frame
   pub same_living : t.living ≡ s.living
+  pub same_temporaries : t.temporaries ≡ s.temporaries
   pub same_held : t.held ≡ s.held
   pub same_slots : d.frame.slots ≡ m.frame.slots
   pub same_pending : d.frame.pending ≡ m.frame.pending

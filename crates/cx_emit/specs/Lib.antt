@@ -2,4 +2,5 @@ pub mod Values
 pub mod Configuration
 pub mod Operations
 pub mod Stands
+pub mod Checks
 pub mod Laws

@@ -326,3 +326,39 @@ module _ {C : Type 0} (step : C → Progress C) where
       go (over waiting t) b =
           record { steps = 1 + b.steps; to = b.to; takes = takes_on c d b.to s.trace s.trace t 1 b.steps (takes_one c d None s.trace e) b.takes; enough = omega (arith, b.enough); steps_paid = omega (arith, b.steps_paid, k) }
       go (over not_a_run t) b = b
+
+  -- ---- parts of which the machine does nothing
+
+  -- the state where a part begins matters by its events and its budget alone
+  pub follows_from : {A : Type 0} (n : ℕ) (s t : State) (c : C) (account : Account) (Q : A → C → State → Type 0) (E : Exception → C → State → Type 0) (r : Outcome A)
+      → t.trace ≡ s.trace → t.budget ≡ s.budget → Follows step n t c account Q E r → Follows step n s c account Q E r
+  follows_from {A} n s t c account Q E r same_trace same_budget a = record { comes = go r a.comes }
+    where
+      leads : (saves owes hand : ℕ) (Stands : C → Type 0) (u : State) → Leads step n t c saves owes hand Stands u → Leads step n s c saves owes hand Stands u
+      leads saves owes hand Stands u b =
+          record {
+            steps = b.steps;
+            to = b.to;
+            takes = subst (λ trace. Takes step c trace b.steps b.to u.trace) same_trace b.takes;
+            stands = b.stands;
+            told = b.told;
+            units_paid = omega (arith, b.units_paid, same_budget);
+            steps_paid = omega (arith, b.steps_paid, same_budget);
+          }
+
+      go : (r : Outcome A) → Comes step n t c account Q E r → Comes step n s c account Q E r
+      go (on v u) b = leads account.saves account.owes account.hand (λ d. Q v d u) u b
+      go (thrown e u) b = leads 0 account.late account.hand (λ d. E e d u) u b
+      go (over (ended ending) u) b =
+          λ other. let x = b other in record { steps = x.steps; halts_so = ap (exec step x.steps c) (sym same_trace) ∙ x.halts_so; steps_paid = omega (arith, x.steps_paid, same_budget) }
+      go (over going u) b =
+          record { steps = b.steps; to = b.to; takes = subst (λ trace. Takes step c trace b.steps b.to u) same_trace b.takes; enough = omega (arith, b.enough, same_budget); steps_paid = omega (arith, b.steps_paid, same_budget) }
+      go (over waiting u) b = record { steps = b.steps; to = b.to; takes = subst (λ trace. Takes step c trace b.steps b.to u) same_trace b.takes; enough = b.enough; steps_paid = omega (arith, b.steps_paid, same_budget) }
+      go (over not_a_run u) b = b
+
+  -- the meaning goes on in a state with the same events and budget, and is told the same
+  pub follows_nothing : {A : Type 0} (n : ℕ) (s u : State) (c : C) (account : Account) (Q : A → C → State → Type 0) (E : Exception → C → State → Type 0) (v : A)
+      → account.saves ≤ account.owes → u.trace ≡ s.trace → u.budget ≡ s.budget → u.begins ≡ s.begins → Q v c u → s.begins ≡ begins_ahead step n c → Follows step n s c account Q E (on v u)
+  unfolding gives
+  follows_nothing n s u c account Q E v h same_trace same_budget same_begins q told =
+      follows_from n s u c account Q E (on v u) same_trace same_budget (follows_gives n u c account Q E v h q (same_begins ∙ told))
