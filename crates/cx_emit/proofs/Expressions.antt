@@ -32,13 +32,13 @@ use Rattle.cx_emit.proofs.Places.{gives_on, has_some, at_place, puts, PutsValue,
 use Rattle.cx_emit.proofs.Operators.{unary_steps, binary_steps}
 use Rattle.cx_emit.proofs.Operands.{read_follows, conversion_follows}
 
-abbrev account : ℕ → ℕ → ℕ → Account
+abbrev pub account : ℕ → ℕ → ℕ → Account
 account saves owes late = record { saves = saves; owes = owes; late = late; hand = 0 }
 
 module _ (image : Image) (function : ℕ) (Fly : source.State → State → source.Exception → State → source.State → Type 0)
     (fly_on : (s t : source.State) (m d : State) → AreKept s m t d → (x : source.Exception) (e : State) (u : source.State) → Fly t d x e u → Fly s m x e u) where
   -- a part that gives a value, and then a part that takes it from the operands
-  value_then : {B : Type 0} (first second both : Account) (left : Does store.Value) (next : store.Value → Does B) (from mid : ℕ) (On : source.State → State → B → State → source.State → Type 0)
+  pub value_then : {B : Type 0} (first second both : Account) (left : Does store.Value) (next : store.Value → Does B) (from mid : ℕ) (On : source.State → State → B → State → source.State → Type 0)
       → IsSum first second both
       → ((s t : source.State) (m d : State) → AreKept s m t d → (v : B) (e : State) (u : source.State) → On t d v e u → On s m v e u)
       → Valued image function Fly first left from mid

@@ -4,3 +4,5 @@ mod Places
 mod Operators
 mod Expressions
 mod Operands
+mod Asserting
+mod Evaluating

@@ -45,6 +45,13 @@ pub record AreKept (s : source.State) (m : State) (t : source.State) (d : State)
   pub same_below : d.below ≡ m.below
   pub same_exceptions : d.held ≡ m.held
 
+-- from s and m the machine came to a place, with these operands
+pub record IsAt (function place : ℕ) (operands : List Value) (s : source.State) (m d : State) (t : source.State) : Type 0 where
+  pub machine : State
+  pub is_there : d ≡ running_at machine place operands
+  pub agrees : Agrees function t machine
+  pub kept : AreKept s m t machine
+
 -- from s and m the machine came to a place, with the value on top of the operands below
 pub record Gives (function place : ℕ) (operands : List Value) (s : source.State) (m : State) (v : store.Value) (d : State) (t : source.State) : Type 0 where
   pub machine : State

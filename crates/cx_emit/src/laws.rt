@@ -1,4 +1,4 @@
-ghost use Rattle.cx_emit.specs.Laws.{ExpressionsAreFollowed, OperandsAreFollowed};
+ghost use Rattle.cx_emit.specs.Laws.{ChecksAreFollowed, ExpressionsAreFollowed, OperandsAreFollowed};
 
 /// Where code stands for an expression without calls and names, the machine follows its meaning there: it comes to the end
 /// of the code with the value on top of the operands, or both end alike by the same undefined behaviour. Each unit of the
@@ -14,4 +14,14 @@ pub fn expressions_are_followed()
 /// Source: this project's own, for [conv] of the C++ draft.
 pub fn operands_are_followed()
     ensures { OperandsAreFollowed }
+{}
+
+/// Where code stands for a contract assertion that a party evaluates once, or not at all, the machine follows what the
+/// meaning does of it under each of the four semantics: the evaluation begins, the predicate gives its verdict, and where
+/// that is false the default handler is called under `observe` and `enforce`, and the run ends under `enforce` and
+/// `quick_enforce`. Under `ignore` nothing is done.
+///
+/// Source: P2900R14 [basic.contract.eval] and [basic.contract.handler].
+pub fn checks_are_followed()
+    ensures { ChecksAreFollowed }
 {}

@@ -1,5 +1,5 @@
 -- How parts that are followed go together: one after another, after a unit of the budget, and by single steps.
-use Rattle.std.proofs.Common.{◌≡◌, ℕ, zero, suc, ◌+◌, ◌-◌, ◌≤◌, List, [], Option, Some, None, refl, sym, ap, ◌∙◌, subst, arith}
+use Rattle.std.proofs.Common.{◌≡◌, ℕ, zero, suc, ◌+◌, ◌-◌, ◌≤◌, List, [], ◌∷◌, Option, Some, None, refl, sym, ap, ◌∙◌, subst, arith}
 use Rattle.cx_core.specs.Words.{Ending}
 use Rattle.cx_core.specs.Event.{Evaluation, Event, ended, going, waiting, not_a_run, out, input, input_end, begin, verdict, handler, throw, catch, destroyed}
 use Rattle.cx_core.specs.Outcome.{Exception, State, Outcome, on, thrown, over, Does, after, either, gives, throws, spend, spend_of}
@@ -362,3 +362,24 @@ module _ {C : Type 0} (step : C → Progress C) where
   unfolding gives
   follows_nothing n s u c account Q E v h same_trace same_budget same_begins q told =
       follows_from n s u c account Q E (on v u) same_trace same_budget (follows_gives n u c account Q E v h q (same_begins ∙ told))
+
+  -- ---- a step that begins an evaluation
+
+  begins_now : (n : ℕ) (c d : C) (e : Evaluation) → step c ≡ goes d (Some (begin e)) → begins_ahead step (suc n) c ≡ e ∷ begins_ahead step n d
+  unfolding begins_ahead
+  begins_now n c d e h = ap (λ p. ahead step p (begins_ahead step n)) h
+
+  -- where none is told, no step is
+  pub none_told : (n : ℕ) (c d : C) (e : Evaluation) → step c ≡ goes d (Some (begin e)) → [] ≡ begins_ahead step n c → n ≤ 0
+  none_told zero c d e h told = omega arith
+  none_told (suc n) c d e h told = let now = begins_now n c d e h in let clash : [] ≡ e ∷ begins_ahead step n d = told ∙ now in absurd (cc)
+
+  -- the first that is told is that one
+  pub first_told : (n : ℕ) (c d : C) (e x : Evaluation) (more : List Evaluation) → step c ≡ goes d (Some (begin e)) → x ∷ more ≡ begins_ahead step n c → x ≡ e
+  unfolding begins_ahead
+  first_told zero c d e x more h told = absurd (cc)
+  first_told (suc n) c d e x more h told = let same : x ∷ more ≡ e ∷ begins_ahead step n d = told ∙ begins_now n c d e h in cc
+
+  -- the meaning waits where the machine is
+  pub follows_waiting : {A : Type 0} (n : ℕ) (s : State) (c : C) (account : Account) (Q : A → C → State → Type 0) (E : Exception → C → State → Type 0) → n ≤ 0 → Follows step n s c account Q E (over waiting s.trace)
+  follows_waiting n s c account Q E h = record { comes = record { steps = 0; to = c; takes = takes_none c s.trace; enough = h; steps_paid = omega arith } }
