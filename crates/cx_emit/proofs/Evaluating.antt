@@ -45,14 +45,16 @@ module _ (image : Image) (function : ℕ) (program : Program) (calls : Calls) wh
   restored outer v t e = ap (λ l. after (after (end_each program calls l t) (λ _. set_temporaries outer) throws) (λ _. gives v) throws) e
 
   -- the temporaries around are as before
-  pub full_follows : (part : Does store.Value) (from to : ℕ) → Valued image function Never of_operand part from to → Valued image function Never of_operand (full_expression program calls part) from to
+  pub full_follows_at : (part : Does store.Value) (from to n : ℕ) (operands : List Value) (s : source.State) (m : State)
+      → Follows (image_step image) n (record s { temporaries = [] }) (running_at m from operands) of_operand (Gives function to operands (record s { temporaries = [] }) m) (Never s m) (part (record s { temporaries = [] }))
+      → Follows (image_step image) n s (running_at m from operands) of_operand (Gives function to operands s m) (Never s m) (full_expression program calls part s)
   unfolding either current_temporaries set_temporaries
-  full_follows part from to follows n operands s m a told =
+  full_follows_at part from to n operands s m follows =
       follows_from (image_step image) n s inner (running_at m from operands) of_operand (Gives function to operands s m) (Never s m) _ refl refl
       (follows_either (image_step image) n inner (running_at m from operands) of_operand (account 0 0 0) of_operand of_operand (Gives function to operands inner m) (Gives function to operands s m) (Never inner m) (Never s m) part
       (λ v. either last (λ _. gives v) throws) (λ e. either last (λ _. throws e) throws)
       (record { goes_on = omega arith; left_first = omega arith; left_second = omega arith; in_hand = omega arith }) (record { goes_on = omega arith; left = omega arith; in_hand = omega arith })
-      (follows n operands inner m (record { in_function = a.in_function; same_store = a.same_store; same_next = a.same_next; same_input = a.same_input }) told)
+      follows
       (λ v t d k g told. restores v t d k g told) (λ e t d k x told. absurd x))
     where
       inner : source.State
@@ -83,6 +85,10 @@ module _ (image : Image) (function : ℕ) (program : Program) (calls : Calls) wh
               same_exceptions = (g.kept).same_exceptions;
             };
           }) told)
+
+  pub full_follows : (part : Does store.Value) (from to : ℕ) → Valued image function Never of_operand part from to → Valued image function Never of_operand (full_expression program calls part) from to
+  full_follows part from to follows n operands s m a told =
+      full_follows_at part from to n operands s m (follows n operands (record s { temporaries = [] }) m (record { in_function = a.in_function; same_store = a.same_store; same_next = a.same_next; same_input = a.same_input }) told)
 
   -- ---- a value that is converted to `bool`
 

@@ -6,3 +6,4 @@ mod Expressions
 mod Operands
 mod Asserting
 mod Evaluating
+mod Stating

@@ -4,4 +4,4 @@ pub mod Named
 pub mod Halts
 pub mod Permitted
 pub mod Parts
-mod MainFollowed
+pub mod MainFollowed

@@ -2,7 +2,7 @@
 use Rattle.std.proofs.Common.{◌≡◌, ℕ, zero, suc, ◌+◌, ◌-◌, ◌≤◌, List, [], ◌∷◌, Option, Some, None, refl, sym, ap, ◌∙◌, subst, arith}
 use Rattle.cx_core.specs.Words.{Ending}
 use Rattle.cx_core.specs.Event.{Evaluation, Event, ended, going, waiting, not_a_run, out, input, input_end, begin, verdict, handler, throw, catch, destroyed}
-use Rattle.cx_core.specs.Outcome.{Exception, State, Outcome, on, thrown, over, Does, after, either, gives, throws, spend, spend_of}
+use Rattle.cx_core.specs.Outcome.{Exception, State, Outcome, on, thrown, over, Does, Nothing, nothing, after, either, gives, throws, spend, spend_of}
 use Rattle.cx_simulation.specs.Machine.{Progress, goes, halts, noted, begun, halted, onwards, exec, Takes, ahead, begins_ahead}
 use Rattle.cx_simulation.specs.Parts.{Account, IsSum, IsCaught, IsWithin, Leads, Halts, Stays, Comes, Follows, StepsTo, Steps}
 
@@ -87,7 +87,7 @@ module _ {C : Type 0} (step : C → Progress C) where
         steps_paid = omega (arith, a.steps_paid, b.steps_paid, h);
       }
 
-  leads_less : (n : ℕ) (s : State) (c : C) (saves owes hand saves' owes' hand' : ℕ) → saves' + owes ≤ saves + owes' → hand ≤ hand' → (P Q : C → Type 0) (t : State) → ((d : C) → P d → Q d) → Leads step n s c saves owes hand P t → Leads step n s c saves' owes' hand' Q t
+  pub leads_less : (n : ℕ) (s : State) (c : C) (saves owes hand saves' owes' hand' : ℕ) → saves' + owes ≤ saves + owes' → hand ≤ hand' → (P Q : C → Type 0) (t : State) → ((d : C) → P d → Q d) → Leads step n s c saves owes hand P t → Leads step n s c saves' owes' hand' Q t
   leads_less n s c saves owes hand saves' owes' hand' h k P Q t g a =
       record {
         steps = a.steps;
@@ -383,3 +383,40 @@ module _ {C : Type 0} (step : C → Progress C) where
   -- the meaning waits where the machine is
   pub follows_waiting : {A : Type 0} (n : ℕ) (s : State) (c : C) (account : Account) (Q : A → C → State → Type 0) (E : Exception → C → State → Type 0) → n ≤ 0 → Follows step n s c account Q E (over waiting s.trace)
   follows_waiting n s c account Q E h = record { comes = record { steps = 0; to = c; takes = takes_none c s.trace; enough = h; steps_paid = omega arith } }
+
+  -- a unit, the step that stands for it, and what is done then
+  pub follows_unit_then : {B : Type 0} (n : ℕ) (s : State) (c : C) (first second both : Account) (P : C → State → Type 0) (Q : B → C → State → Type 0) (E : Exception → C → State → Type 0) (rest : Does B)
+      → IsSum first second both → first.saves ≤ first.owes + 31 → s.begins ≡ begins_ahead step n c
+      → ((left : ℕ) → StepsTo step (record s { budget = left }) c (λ d. P d (record s { budget = left })) (record s { budget = left }))
+      → ((t : State) (d : C) (k : ℕ) → P d t → t.begins ≡ begins_ahead step k d → Follows step k t d second Q E (rest t))
+      → Follows step n s c both Q E (either spend (λ _. rest) throws s)
+  unfolding either spend gives throws
+  follows_unit_then {B} n s c first second both P Q E rest sum small told steps more =
+      subst (Follows step n s c both Q E) (same s.budget)
+      (follows_then n s c first second both (λ _. P) Q E (either spend (λ _. gives nothing) throws) (λ _. rest) sum (follows_unit n s c first (λ _. P) E (gives nothing) small told steps) (λ _ t d k p told. more t d k p told))
+    where
+      same : (b : ℕ) → after (after (spend_of b s) (λ _. gives nothing) throws) (λ _. rest) throws ≡ after (spend_of b s) (λ _. rest) throws
+      same zero = refl
+      same (suc zero) = refl
+      same (suc (suc l)) = refl
+
+  -- a part of which the machine does nothing, and what is done then
+  pub follows_nothing_then : {A B : Type 0} (n : ℕ) (s u : State) (c : C) (account : Account) (Q : B → C → State → Type 0) (E : Exception → C → State → Type 0) (m : Does A) (v : A) (next : A → Does B) (catches : Exception → Does B)
+      → m s ≡ on v u → u.trace ≡ s.trace → u.budget ≡ s.budget → Follows step n u c account Q E (next v u) → Follows step n s c account Q E (either m next catches s)
+  unfolding either
+  follows_nothing_then n s u c account Q E m v next catches e same_trace same_budget f =
+      subst (λ r. Follows step n s c account Q E (after r next catches)) (sym e) (follows_from n s u c account Q E (next v u) same_trace same_budget f)
+
+  -- a part that no exception leaves, and then a change of the state of which the machine does nothing
+  pub follows_changed : {A B : Type 0} (n : ℕ) (s : State) (c : C) (account : Account) (P : A → C → State → Type 0) (Q : B → C → State → Type 0) (m : Does A) (next : A → Does B) (catches : Exception → Does B)
+      → account.owes ≤ account.saves + account.late
+      → ((v : A) (t : State) (d : C) → P v d t → (w : B) × (u : State) × (next v t ≡ on w u) × (u.trace ≡ t.trace) × (u.budget ≡ t.budget) × (u.begins ≡ t.begins) × Q w d u)
+      → Follows step n s c account P (λ e d t. ⊥) (m s) → Follows step n s c account Q (λ e d t. ⊥) (either m next catches s)
+  follows_changed n s c account P Q m next catches h change f =
+      follows_either n s c account zero_account (record { saves = account.saves + account.late; owes = 0; late = 0; hand = 0 }) account P Q (λ e d t. ⊥) (λ e d t. ⊥) m next catches
+      (record { goes_on = omega arith; left_first = omega arith; left_second = omega (arith, h); in_hand = omega arith }) (record { goes_on = omega arith; left = omega arith; in_hand = omega arith }) f
+      (λ v t d k p told. let x = change v t d p in subst (Follows step k t d zero_account Q (λ e d t. ⊥)) (sym x.2) (follows_nothing k t x.1 d zero_account Q (λ e d t. ⊥) x.0 (omega arith) x.3 x.4 x.5 x.6 told))
+      (λ e t d k p told. absurd p)
+    where
+      zero_account : Account
+      zero_account = record { saves = 0; owes = 0; late = 0; hand = 0 }

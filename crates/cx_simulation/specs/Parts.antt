@@ -1,10 +1,12 @@
 -- What it is for a machine to follow a part of a run: where the part goes on or is left by an exception, the machine comes to a configuration that stands for the meaning's state, and where the run ends, the machine ends alike; the steps and the units of the budget pay for each other. This is this project's own.
-use Rattle.std.specs.Prelude.{◌≡◌, ◌≢◌, ℕ, ◌+◌, ◌-◌, ◌*◌, ◌≤◌, List, Option}
+use Rattle.std.specs.Prelude.{◌≡◌, ◌≢◌, ℕ, ◌+◌, ◌-◌, ◌*◌, ◌≤◌, ℤ, List, Option, true}
 use Rattle.cx_core.specs.Words.{Ending, Returned, Terminated, Undefined, Mixed}
 use Rattle.cx_core.specs.Event.{Evaluation, Event, ended, going, waiting, not_a_run}
 use Rattle.cx_core.specs.Outcome.{Exception, State, Outcome, on, thrown, over}
 use Rattle.cx_core.specs.Program.{Program}
 use Rattle.cx_core.specs.Store.{Value, number, address, null, violation}
+use Rattle.cx_core.specs.declared.number.IntegerType.TheVariants as types
+use Rattle.cx_core.specs.Number.{in_range}
 use Rattle.cx_core.specs.Meaning.{mean, start, main_call, calls_within, depth_limit}
 use Rattle.cx_core.specs.Runs.{AreBytes, IsFaithful}
 use Rattle.cx_code.specs.declared.image.Image.{Image}
@@ -118,7 +120,7 @@ module _ {C : Type 0} (step : C → Progress C) where
 
   -- where `main` has given its value
   abbrev pub HasReturned : Value → C → State → Type 0
-  HasReturned (number v) d t = EndsSoon (Returned v) d t
+  HasReturned (number v) d t = in_range types.Int v ≡ true → EndsSoon (Returned v) d t
   HasReturned (address a) d t = Unit {0}
   HasReturned null d t = Unit {0}
   HasReturned (violation v) d t = Unit {0}
@@ -131,9 +133,10 @@ module _ {C : Type 0} (step : C → Progress C) where
 abbrev pub whole_account : Account
 whole_account = record { saves = 0; owes = 31; late = 31; hand = 0 }
 
--- a well made program comes to no undefined behaviour of the kind that only others have
-abbrev pub IsNeverMixed : Program → Type 0
-IsNeverMixed program = (begins : List Evaluation) (input : List ℕ) (budget : ℕ) → AreBytes input → (mean program begins input budget).answer ≢ ended (Undefined Mixed)
+-- a well made program comes to no undefined behaviour of the kind that only others have, and returns a number of `int`
+pub record IsWellMade (program : Program) : Type 0 where
+  pub never_mixed : (begins : List Evaluation) (input : List ℕ) (budget : ℕ) → AreBytes input → (mean program begins input budget).answer ≢ ended (Undefined Mixed)
+  pub returns_int : (begins : List Evaluation) (input : List ℕ) (budget : ℕ) → AreBytes input → (n : ℤ) → (mean program begins input budget).answer ≡ ended (Returned n) → in_range types.Int n ≡ true
 
 -- the image's machine follows the call of `main`
 abbrev pub FollowsMain : Image → Program → List ℕ → Type 0
@@ -145,4 +148,4 @@ FollowsMain image program input =
 -- an image whose machine follows the call of `main` on each input is faithful to the program
 abbrev pub FollowedCallsOfMainArePermitted : Type 0
 FollowedCallsOfMainArePermitted =
-    (image : Image) (program : Program) → IsNeverMixed program → ((input : List ℕ) → AreBytes input → FollowsMain image program input) → IsFaithful (image_run image) program
+    (image : Image) (program : Program) → IsWellMade program → ((input : List ℕ) → AreBytes input → FollowsMain image program input) → IsFaithful (image_run image) program

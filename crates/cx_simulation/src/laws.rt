@@ -11,7 +11,7 @@ pub fn followed_runs_are_permitted()
 {}
 
 /// The same of an image whose machine follows the call of `main` as a part of a run, where the program never comes to
-/// undefined behaviour of the kind that no well made program has. What is said of a part is said by how it is left: it
+/// undefined behaviour of the kind that no well made program has, and returns a number of `int`. What is said of a part is said by how it is left: it
 /// goes on, an exception flies, or the run ends, each with the steps and the units of the budget that pay for each other.
 ///
 /// Source: this project's own.
