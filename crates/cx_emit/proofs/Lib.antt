@@ -7,3 +7,4 @@ mod Operands
 mod Asserting
 mod Evaluating
 mod Stating
+mod Starting

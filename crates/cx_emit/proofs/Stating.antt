@@ -38,7 +38,7 @@ completes_on function to exit s t m d kept continue e u x = x
 
 module _ (image : Image) (function exit : ℕ) (program : Program) (calls : Calls) (default : HaveDefaultHandler image program) where
   -- from the one place to the other, in a frame without a result object
-  pub Stated : Does Completion → ℕ → ℕ → Type 0
+  unfoldable pub Stated : Does Completion → ℕ → ℕ → Type 0
   Stated part from to =
       (n : ℕ) (s : source.State) (m : State) → Agrees function s m → s.frame.result ≡ None → s.begins ≡ begins_ahead (image_step image) n (running_at m from [])
       → Follows (image_step image) n s (running_at m from []) of_statement (Completes function to exit s m) (Never s m) (part s)

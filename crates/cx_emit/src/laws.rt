@@ -1,3 +1,4 @@
+ghost use Rattle.cx_emit.specs.Units.{ImagesOfMainAreFaithful};
 ghost use Rattle.cx_emit.specs.Laws.{ChecksAreFollowed, ExpressionsAreFollowed, OperandsAreFollowed};
 
 /// Where code stands for an expression without calls and names, the machine follows its meaning there: it comes to the end
@@ -24,4 +25,13 @@ pub fn operands_are_followed()
 /// Source: P2900R14 [basic.contract.eval] and [basic.contract.handler].
 pub fn checks_are_followed()
     ensures { ChecksAreFollowed }
+{}
+
+/// An image that stands for a well made program whose `main` declares nothing has only runs that the program permits:
+/// blocks, expression statements, contract assertions that are evaluated once or not at all, and `return`, of the
+/// expressions of the other laws. The image's first function calls another one, which has the code of the body.
+///
+/// Source: this project's own, for [basic.start.main] of the C++ draft and [basic.contract.eval] of P2900R14.
+pub fn images_of_main_are_faithful()
+    ensures { ImagesOfMainAreFaithful }
 {}
