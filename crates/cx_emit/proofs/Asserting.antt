@@ -1,45 +1,32 @@
 -- Where code stands for a contract assertion the machine follows it.
-use Rattle.std.proofs.Common.{◌≡◌, ◌≢◌, ℕ, zero, suc, ◌+◌, ◌-◌, ◌==◌, ℤ, pos, List, [], ◌∷◌, ◌++◌, length, Option, Some, None, Bool, true, false, not, ◌&&◌, if◌then◌else◌, ◌⊎◌, inl, inr, refl, sym, ap, ◌∙◌, subst, arith}
-use Rattle.std.specs.Prelude.{slice_get, nat_eq, bytes_eq}
-use Rattle.std.specs.Ordering.{int_eq}
-use Rattle.std.proofs.lemmas.Slice.Eq.{bytes_eq-Decides}
+use Rattle.std.proofs.Common.{◌≡◌, ℕ, ◌+◌, ◌-◌, ◌==◌, pos, List, [], ◌∷◌, ◌++◌, Option, Some, None, Bool, true, false, if◌then◌else◌, inl, inr, refl, sym, ap, ◌∙◌, subst, arith}
 use Rattle.cx_code.specs.declared.image.Image.{Image}
 use Rattle.cx_code.specs.declared.operation.Operation.{Operation}
 use Rattle.cx_code.specs.declared.operation.Operation.TheVariants as does
-use Rattle.cx_code.specs.declared.operation.Scalar.TheVariants as scalars
-use Rattle.cx_code.specs.declared.run.Event.{Event as Noted}
-use Rattle.cx_code.specs.declared.run.Event.TheVariants as notes
 use Rattle.cx_code.specs.declared.run.Value.{Value}
 use Rattle.cx_code.specs.declared.run.Value.TheVariants as values
-use Rattle.cx_code.specs.Arithmetic.{value_as}
 use Rattle.cx_code.specs.State.{State, Violated}
 use Rattle.cx_code.specs.Act as machine
 use Rattle.cx_code.specs.Act.{act, on_some, mixed}
 use Rattle.cx_code.specs.Run.{step, acted}
-use Rattle.cx_core.specs.Words.{Party, Definer, Caller, Semantic, Ignore, Observe, Enforce, QuickEnforce, Holds, False, DetectionMode, PredicateFalse, Mixed, Undefined, ContractTerminated}
+use Rattle.cx_core.specs.Words.{Semantic, Ignore, Observe, Enforce, QuickEnforce, Holds, False, DetectionMode, PredicateFalse, ContractTerminated}
 use Rattle.cx_core.specs.Number.{truth_number}
-use Rattle.cx_core.specs.Event.{Evaluation, Event, begin, verdict, handler, ended, waiting, same_evaluation, party_number, semantic_number}
-use Rattle.cx_core.specs.Tree.{Assertion, Check, Operand}
+use Rattle.cx_core.specs.Event.{Event, verdict, handler, ended}
+use Rattle.cx_core.specs.Tree.{Assertion}
 use Rattle.cx_core.specs.Program.{Program}
-use Rattle.cx_core.specs.Store as store
-use Rattle.cx_core.specs.Store.{number, address, null, violation}
 use Rattle.cx_core.specs.Outcome as source
 use Rattle.cx_core.specs.Outcome.{on, over, Does, Nothing, nothing, either, gives, throws, ends, spend, append, current_temporaries, set_temporaries}
-use Rattle.cx_core.specs.Leaving.{Calls, end_each, full_expression}
-use Rattle.cx_core.specs.Block.{Owed, evaluations, next_told, next_of, begin_told, begin_of, continued, if_permitted}
+use Rattle.cx_core.specs.Leaving.{Calls}
 use Rattle.cx_core.specs.Check.{truth, handle, violated, verdict_on, verdict_threw, evaluation}
 use Rattle.cx_core.specs.Check as check
-use Rattle.cx_core.specs.Meaning.{used, evaluated, owed, checked}
-use Rattle.cx_simulation.specs.Machine.{Progress, goes, halts, noted, begun, begins_ahead, ahead}
-use Rattle.cx_simulation.specs.ImageMachine.{progress, image_step, named, evaluation_of, violation_at, assertion_name}
-use Rattle.cx_simulation.specs.Parts.{Account, Follows, StepsTo, Steps}
-use Rattle.cx_simulation.proofs.Parts.{follows_then, follows_either, follows_less, follows_one, follows_unit, follows_gives, follows_step, follows_from, follows_nothing, told_on}
-use Rattle.cx_emit.specs.Values.{IsValue}
-use Rattle.cx_emit.specs.Configuration.{running_at, operation_at, Has, Agrees, AreKept, IsAt, Gives}
-use Rattle.cx_emit.specs.Checks.{IsAssertion, HaveDefaultHandler, GoesOn, StandsViolated, StandsTruth, StandsEvaluation, StandsCheck}
-use Rattle.cx_emit.specs.Laws.{of_operand, of_statement}
-use Rattle.cx_emit.proofs.Places.{all_kept, kept_on, at_place, Valued}
-use Rattle.cx_emit.proofs.Expressions.{account, value_then, used_follows}
+use Rattle.cx_simulation.specs.Machine.{goes, noted, begun, begins_ahead}
+use Rattle.cx_simulation.specs.ImageMachine.{progress, image_step}
+use Rattle.cx_simulation.specs.Parts.{Account, Follows, StepsTo}
+use Rattle.cx_simulation.proofs.Parts.{follows_then, follows_less, follows_one, follows_gives, follows_step, told_on}
+use Rattle.cx_emit.specs.Configuration.{running_at, operation_at, Has, Agrees, AreKept, IsAt}
+use Rattle.cx_emit.specs.Checks.{IsAssertion, HaveDefaultHandler, GoesOn, StandsViolated}
+use Rattle.cx_emit.proofs.Places.{all_kept, kept_on}
+use Rattle.cx_emit.proofs.Expressions.{account}
 
 -- no exception flies
 abbrev pub Never : source.State → State → source.Exception → State → source.State → Type 0

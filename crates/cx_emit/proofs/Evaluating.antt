@@ -1,6 +1,6 @@
 -- Where code stands for a contract assertion the machine follows its evaluation.
-use Rattle.std.proofs.Common.{◌≡◌, ◌≢◌, ℕ, zero, suc, ◌+◌, ◌-◌, ◌≤◌, ℤ, pos, List, [], ◌∷◌, map, Option, Some, None, Bool, true, false, not, ◌&&◌, if◌then◌else◌, ◌⊎◌, inl, inr, refl, sym, ap, ◌∙◌, subst, arith}
-use Rattle.std.specs.Prelude.{slice_get, nat_eq, bytes_eq}
+use Rattle.std.proofs.Common.{◌≡◌, ℕ, zero, ◌+◌, pos, List, [], ◌∷◌, Some, None, Bool, true, false, not, ◌&&◌, inl, inr, refl, sym, ap, ◌∙◌, subst, arith}
+use Rattle.std.specs.Prelude.{nat_eq, bytes_eq}
 use Rattle.std.specs.Ordering.{int_eq}
 use Rattle.std.proofs.lemmas.Slice.Eq.{bytes_eq-Decides}
 use Rattle.cx_code.specs.declared.image.Image.{Image}
@@ -10,10 +10,10 @@ use Rattle.cx_code.specs.declared.run.Value.{Value}
 use Rattle.cx_code.specs.declared.run.Value.TheVariants as values
 use Rattle.cx_code.specs.Arithmetic.{value_as}
 use Rattle.cx_code.specs.State.{State}
-use Rattle.cx_code.specs.Act.{act, next, on_some, mixed}
-use Rattle.cx_core.specs.Words.{Party, Definer, Caller, Semantic, Ignore, Observe, Enforce, QuickEnforce, Mixed, Undefined}
+use Rattle.cx_code.specs.Act.{next, on_some, mixed}
+use Rattle.cx_core.specs.Words.{Party, Definer, Caller, Semantic, Ignore, Observe, Enforce, QuickEnforce}
 use Rattle.cx_core.specs.Number.{truth_number}
-use Rattle.cx_core.specs.Event.{Evaluation, Event, begin, ended, waiting, same_evaluation, party_number, semantic_number}
+use Rattle.cx_core.specs.Event.{Evaluation, begin, same_evaluation, party_number, semantic_number}
 use Rattle.cx_core.specs.Tree.{Check, Operand}
 use Rattle.cx_core.specs.Program.{Program}
 use Rattle.cx_core.specs.Store as store
@@ -21,18 +21,18 @@ use Rattle.cx_core.specs.Store.{number, address, null, violation}
 use Rattle.cx_core.specs.Outcome as source
 use Rattle.cx_core.specs.Outcome.{on, over, Does, Nothing, nothing, after, either, gives, throws, ends, spend, current_temporaries, set_temporaries}
 use Rattle.cx_core.specs.Leaving.{Calls, end_each, full_expression}
-use Rattle.cx_core.specs.Block.{Owed, Continued, evaluations, next_told, next_of, begin_told, begin_of, continued, if_permitted}
+use Rattle.cx_core.specs.Block.{Owed, evaluations, next_told, next_of, begin_told, begin_of, continued, if_permitted}
 use Rattle.cx_core.specs.Check.{truth, verdict_on, verdict_threw, evaluation}
 use Rattle.cx_core.specs.Meaning.{used, evaluated, owed, checked}
-use Rattle.cx_simulation.specs.Machine.{Progress, goes, begins_ahead}
-use Rattle.cx_simulation.specs.ImageMachine.{progress, image_step, evaluation_of}
-use Rattle.cx_simulation.specs.Parts.{Account, Follows, StepsTo, Steps}
+use Rattle.cx_simulation.specs.Machine.{goes, begins_ahead}
+use Rattle.cx_simulation.specs.ImageMachine.{progress, image_step}
+use Rattle.cx_simulation.specs.Parts.{Follows, StepsTo, Steps}
 use Rattle.cx_simulation.proofs.Parts.{follows_then, follows_either, follows_one, follows_unit, follows_gives, follows_from, follows_nothing, follows_waiting, none_told, first_told}
 use Rattle.cx_emit.specs.Values.{IsValue}
 use Rattle.cx_emit.specs.Configuration.{running_at, Has, Agrees, AreKept, IsAt, Gives}
 use Rattle.cx_emit.specs.Checks.{IsAssertion, HaveDefaultHandler, StandsTruth, StandsViolated, StandsEvaluation, StandsCheck}
 use Rattle.cx_emit.specs.Laws.{of_operand, of_statement}
-use Rattle.cx_emit.proofs.Places.{all_kept, kept_on, Valued}
+use Rattle.cx_emit.proofs.Places.{all_kept, Valued}
 use Rattle.cx_emit.proofs.Expressions.{account, value_then, used_follows}
 use Rattle.cx_emit.proofs.Asserting.{Never, never_on, is_at_on, step_to, at, from_place, verdict_follows}
 

@@ -1,6 +1,5 @@
 -- Where code stands for an expression the machine follows it: by recursion on the tree.
 use Rattle.std.proofs.Common.{◌≡◌, ℕ, ◌+◌, pos, List, ◌∷◌, Option, inl, inr, refl, sym, ap, ◌∙◌, subst, arith}
-use Rattle.cx_code.specs.declared.code.Region.{Region}
 use Rattle.cx_code.specs.declared.image.Image.{Image}
 use Rattle.cx_code.specs.declared.operation.Operation.TheVariants as does
 use Rattle.cx_code.specs.declared.run.Value.{Value}
@@ -24,7 +23,7 @@ use Rattle.cx_simulation.specs.ImageMachine.{image_step}
 use Rattle.cx_simulation.specs.Parts.{Account, IsSum, Follows}
 use Rattle.cx_simulation.proofs.Parts.{follows_then, follows_less, follows_unit}
 use Rattle.cx_emit.specs.Values.{IsValue}
-use Rattle.cx_emit.specs.Configuration.{running_at, Has, Agrees, AreKept, Gives, Flies}
+use Rattle.cx_emit.specs.Configuration.{running_at, Has, Agrees, AreKept, Gives}
 use Rattle.cx_emit.specs.Operations.{unary_operation, binary_operation}
 use Rattle.cx_emit.specs.Stands.{HasSome, StandsConstant, StandsRead, StandsConversion, StandsExpr, StandsOperand}
 use Rattle.cx_emit.specs.Laws.{of_expression, of_operand}

@@ -8,3 +8,4 @@ mod Asserting
 mod Evaluating
 mod Stating
 mod Starting
+mod Example

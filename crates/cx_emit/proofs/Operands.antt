@@ -1,7 +1,6 @@
 -- The machine reads and converts an operand as the meaning does.
 use Rattle.std.proofs.Common.{◌≡◌, ℕ, ◌+◌, ◌-◌, ℤ, List, [], ◌∷◌, zero, suc, Option, Some, None, Bool, true, false, if◌then◌else◌, inl, inr, refl, sym, ap, ◌∙◌, subst, arith}
 use Rattle.std.specs.Prelude.{Result, Ok, Err}
-use Rattle.cx_code.specs.declared.code.Region.{Region}
 use Rattle.cx_code.specs.declared.image.Image.{Image}
 use Rattle.cx_code.specs.declared.memory.Loaded.{Loaded}
 use Rattle.cx_code.specs.declared.memory.Loaded.TheVariants as gives
@@ -29,7 +28,7 @@ use Rattle.cx_simulation.specs.ImageMachine.{image_step, progress}
 use Rattle.cx_simulation.specs.Parts.{Account, Follows}
 use Rattle.cx_simulation.proofs.Parts.{follows_one, follows_step, follows_gives, told_on}
 use Rattle.cx_emit.specs.Values.{IsValue, Keeps, IsLeaf, AreLeaves, IsObject}
-use Rattle.cx_emit.specs.Configuration.{running_at, Has, Agrees, Gives, Flies}
+use Rattle.cx_emit.specs.Configuration.{running_at, Has, Agrees, Gives}
 use Rattle.cx_emit.specs.Operations.{scalar_of}
 use Rattle.cx_emit.specs.Stands.{StandsNumberLoad, StandsLoad, StandsRead, StandsConversion}
 use Rattle.cx_emit.proofs.Numbers.{same_conversion, same_number, same_wrapped, below_half}

@@ -3,7 +3,6 @@ use Rattle.std.proofs.Common.{◌≡◌, ◌≢◌, ℕ, ◌^◌, ℤ, pos, ◌+
 use Rattle.std.specs.Prelude.{int_lt, int_le, int_div, int_rem, unsigned_abs}
 use Rattle.std.specs.Int.{int_shr, int_div_euclid}
 use Rattle.std.specs.Ordering.{int_eq}
-use Rattle.cx_code.specs.declared.code.Region.{Region}
 use Rattle.cx_code.specs.declared.image.Image.{Image}
 use Rattle.cx_code.specs.declared.operation.Operation.{Operation}
 use Rattle.cx_code.specs.declared.operation.Operation.TheVariants as does

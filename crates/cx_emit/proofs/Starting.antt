@@ -1,21 +1,18 @@
 -- An image that stands for a program of `main` alone is faithful to it.
-use Rattle.std.proofs.Common.{◌≡◌, ◌≢◌, ℕ, ◌+◌, ◌-◌, ◌≤◌, ℤ, pos, List, [], ◌∷◌, length, Option, Some, None, Bool, true, false, ◌&&◌, if◌then◌else◌, refl, sym, ap, ◌∙◌, subst, arith}
+use Rattle.std.proofs.Common.{◌≡◌, ℕ, ◌+◌, ◌-◌, ℤ, pos, List, [], ◌∷◌, length, Option, Some, None, Bool, true, false, ◌&&◌, if◌then◌else◌, refl, sym, ap, ◌∙◌, subst, arith}
 use Rattle.std.specs.Prelude.{slice_get, nat_le}
 use Rattle.cx_code.specs.declared.image.Image.{Image}
 use Rattle.cx_code.specs.declared.image.Function.{Function}
 use Rattle.cx_code.specs.declared.operation.Operation.TheVariants as does
-use Rattle.cx_code.specs.declared.run.Value.{Value}
 use Rattle.cx_code.specs.declared.run.Value.TheVariants as values
 use Rattle.cx_code.specs.declared.run.Ending.TheVariants as endings
-use Rattle.cx_code.specs.Arithmetic.{is_int}
 use Rattle.cx_code.specs.Store.{nothing_made}
-use Rattle.cx_code.specs.State.{State, Frame, initial, first_frame, frame_of, with_globals}
+use Rattle.cx_code.specs.State.{State, initial, first_frame, frame_of, with_globals}
 use Rattle.cx_code.specs.Act as machine
 use Rattle.cx_code.specs.Act.{act, moved, on_some, mixed, left, returned, return_from, depth, is_too_deep}
 use Rattle.cx_core.specs.Words.{Returned}
 use Rattle.cx_core.specs.Number.{in_range}
 use Rattle.cx_core.specs.declared.number.IntegerType.TheVariants as types
-use Rattle.cx_core.specs.Event.{Event, Evaluation}
 use Rattle.cx_core.specs.Tree.{Stmts}
 use Rattle.cx_core.specs.Program.{Program, exit_status}
 use Rattle.cx_core.specs.Program as tree
@@ -26,22 +23,22 @@ use Rattle.cx_core.specs.Outcome.{on, over, Does, Nothing, nothing, after, eithe
 use Rattle.cx_core.specs.Leaving.{Call, Calls, edge_if, within, in_unit, scope}
 use Rattle.cx_core.specs.Block.{evaluations}
 use Rattle.cx_core.specs.Statements.{Completion, on_to_next, break, continue, return}
-use Rattle.cx_core.specs.Meaning.{stmts, checked, caller_checks, preconditions, postconditions, value_given, body, naming_result, destroy_result, function_call, acting, unit_of, active, implicit_within, calls_within, main_call, start, depth_limit}
-use Rattle.cx_simulation.specs.Machine.{goes, halts, halted, exec, onwards, begins_ahead}
+use Rattle.cx_core.specs.Meaning.{stmts, checked, preconditions, postconditions, value_given, body, destroy_result, function_call, acting, unit_of, active, implicit_within, calls_within, main_call, start, depth_limit}
+use Rattle.cx_simulation.specs.Machine.{goes, halts, begins_ahead}
 use Rattle.cx_simulation.specs.ImageMachine.{progress, image_step}
-use Rattle.cx_simulation.specs.Parts.{Account, Follows, EndsSoon, HasReturned, IsUncaught, whole_account}
-use Rattle.cx_simulation.proofs.Parts.{follows_then, follows_less, follows_one, follows_gives, follows_from, follows_changed, follows_nothing_then, follows_unit_then, follows_step, told_on, takes_one, halts_one}
+use Rattle.cx_simulation.specs.Parts.{Account, Follows, HasReturned, IsUncaught, whole_account}
+use Rattle.cx_simulation.proofs.Parts.{follows_then, follows_less, follows_gives, follows_from, follows_changed, follows_nothing_then, follows_unit_then, follows_step, told_on, takes_one, halts_one}
 use Rattle.cx_simulation.proofs.MainFollowed.{main_followed}
 use Rattle.cx_emit.specs.Values.{IsStore}
-use Rattle.cx_emit.specs.Configuration.{running_at, Has, Agrees, AreKept, IsAt, Gives}
-use Rattle.cx_emit.specs.Checks.{HaveDefaultHandler, GoesOn}
-use Rattle.cx_emit.specs.Statements.{StandsStmts, Completes}
+use Rattle.cx_emit.specs.Configuration.{running_at, Agrees, IsAt, Gives}
+use Rattle.cx_emit.specs.Checks.{HaveDefaultHandler}
+use Rattle.cx_emit.specs.Statements.{Completes}
 use Rattle.cx_emit.specs.Units.{IsMain, StandsMain, HaveGlobals, no_checks, ImagesOfMainAreFaithful}
 use Rattle.cx_emit.specs.Laws.{of_statement}
-use Rattle.cx_emit.proofs.Places.{all_kept, gives_on}
+use Rattle.cx_emit.proofs.Places.{gives_on}
 use Rattle.cx_emit.proofs.Expressions.{account}
-use Rattle.cx_emit.proofs.Asserting.{Never, is_at_on, step_to, at, from_place, goes_on}
-use Rattle.cx_emit.proofs.Stating.{Stated, scope_follows, stmts_follows, completes_on}
+use Rattle.cx_emit.proofs.Asserting.{Never, at, from_place, goes_on}
+use Rattle.cx_emit.proofs.Stating.{Stated, scope_follows, stmts_follows}
 
 module _ (image : Image) (program : Program) (b : Stmts) (default : HaveDefaultHandler image program) (is_main : IsMain program b) (st : StandsMain image b) (calls : Calls) where
   -- ---- the value of the body
@@ -237,7 +234,7 @@ module _ (image : Image) (program : Program) (b : Stmts) (default : HaveDefaultH
       λ ranged. record {
         steps = 2;
         halts_so = takes_one (image_step image) d (after_body s t d (number x) g) None t.trace (returns_to_first s t d (number x) g) 1
-        ∙ halts_one (image_step image) (after_body s t d (number x) g) (Returned x) None t.trace (returns_number s t d (number x) g x g.same_value ranged a);
+            ∙ halts_one (image_step image) (after_body s t d (number x) g) (Returned x) None t.trace (returns_number s t d (number x) g x g.same_value ranged a);
         few = omega arith;
       }
   returned_soon s t d (address x) a g = tt {0}
@@ -276,4 +273,4 @@ images_of_main image program b made default is_main st globals =
     let s : source.State = start program (begins_ahead (image_step image) n c) input budget in
     let same : c ≡ running_at c 0 [] = starts_at image program b default is_main st globals input in
     subst (λ d. Follows (image_step image) n s d whole_account (HasReturned (image_step image)) (IsUncaught (image_step image)) (calls_within program depth_limit (main_call program) s)) (sym same)
-    (main_follows image program b default is_main st globals input _ n s (agrees_first image program b default is_main st globals input s refl refl refl) (ap (begins_ahead (image_step image) n) same)))
+    (main_follows image program b default is_main st globals input (implicit_within program (length program.classes + 1) (calls_within program 4095)) n s (agrees_first image program b default is_main st globals input s refl refl refl) (ap (begins_ahead (image_step image) n) same)))

@@ -1,12 +1,9 @@
 -- Where code stands for statements the machine follows them.
-use Rattle.std.proofs.Common.{◌≡◌, ◌≢◌, ℕ, ◌+◌, ◌-◌, ◌≤◌, ℤ, pos, List, [], ◌∷◌, Option, Some, None, Bool, true, false, ◌⊎◌, inl, inr, refl, sym, ap, ◌∙◌, subst, arith}
+use Rattle.std.proofs.Common.{◌≡◌, ℕ, ◌+◌, List, [], ◌∷◌, None, inl, inr, refl, sym, ap, ◌∙◌, arith}
 use Rattle.cx_code.specs.declared.image.Image.{Image}
 use Rattle.cx_code.specs.declared.operation.Operation.TheVariants as does
 use Rattle.cx_code.specs.declared.run.Value.{Value}
-use Rattle.cx_code.specs.declared.run.Value.TheVariants as values
 use Rattle.cx_code.specs.State.{State}
-use Rattle.cx_simulation.specs.ImageMachine.{progress}
-use Rattle.cx_code.specs.Act.{act}
 use Rattle.cx_core.specs.Words.{Definer}
 use Rattle.cx_core.specs.Tree.{Check, Expr, Operand, Stmt, Stmts, empty, expression, block, contract_assert, return_value, done, next}
 use Rattle.cx_core.specs.Program.{Program}
@@ -16,16 +13,16 @@ use Rattle.cx_core.specs.Outcome.{on, over, Does, Nothing, nothing, after, eithe
 use Rattle.cx_core.specs.Leaving.{Calls, end_each, scope, full_expression}
 use Rattle.cx_core.specs.Statements.{Completion, on_to_next, break, continue, return, completed, sequence}
 use Rattle.cx_core.specs.Meaning.{expr, used, checked, result_stored, stmt, stmts}
-use Rattle.cx_simulation.specs.Machine.{goes, begins_ahead}
+use Rattle.cx_simulation.specs.Machine.{begins_ahead}
 use Rattle.cx_simulation.specs.ImageMachine.{image_step}
-use Rattle.cx_simulation.specs.Parts.{Account, Follows}
+use Rattle.cx_simulation.specs.Parts.{Follows}
 use Rattle.cx_simulation.proofs.Parts.{follows_then, follows_less, follows_one, follows_gives, follows_from, follows_changed}
 use Rattle.cx_emit.specs.Configuration.{running_at, Has, Agrees, AreKept, IsAt, Gives}
 use Rattle.cx_emit.specs.Checks.{HaveDefaultHandler, GoesOn, StandsCheck}
 use Rattle.cx_emit.specs.Stands.{StandsExpr, StandsOperand}
 use Rattle.cx_emit.specs.Statements.{StandsStmt, StandsStmts, Completes}
 use Rattle.cx_emit.specs.Laws.{of_expression, of_operand, of_statement}
-use Rattle.cx_emit.proofs.Places.{all_kept, kept_on, gives_on, Valued}
+use Rattle.cx_emit.proofs.Places.{all_kept, gives_on}
 use Rattle.cx_emit.proofs.Expressions.{account, value_then, expr_follows, used_follows}
 use Rattle.cx_emit.proofs.Asserting.{Never, never_on, is_at_on, step_to, at, from_place}
 use Rattle.cx_emit.proofs.Evaluating.{check_follows, full_follows, full_follows_at}
@@ -81,12 +78,24 @@ module _ (image : Image) (function exit : ℕ) (program : Program) (calls : Call
 
       change : (c : Completion) (t : source.State) (d : State) → Completes function to exit inner m c d t
           → (w : Completion) × (u : source.State) × (either last (λ _. gives c) throws t ≡ on w u) × (u.trace ≡ t.trace) × (u.budget ≡ t.budget) × (u.begins ≡ t.begins) × Completes function to exit s m w d u
-      change on_to_next t d g =
-          (on_to_next, record t { living = s.living }, unscoped s.living on_to_next t (g.kept).same_living, refl, refl, refl,
-          record { machine = g.machine; is_there = g.is_there; agrees = agrees_living t g.machine s.living g.agrees; kept = with_living s t m g.machine inner g.kept refl refl refl })
-      change (return v) t d g =
-          (return v, record t { living = s.living }, unscoped s.living (return v) t (g.kept).same_living, refl, refl, refl,
-          record { machine = g.machine; value = g.value; is_there = g.is_there; same_value = g.same_value; agrees = agrees_living t g.machine s.living g.agrees; kept = with_living s t m g.machine inner g.kept refl refl refl })
+      change on_to_next t d g = (
+        on_to_next,
+        record t { living = s.living },
+        unscoped s.living on_to_next t (g.kept).same_living,
+        refl,
+        refl,
+        refl,
+        record { machine = g.machine; is_there = g.is_there; agrees = agrees_living t g.machine s.living g.agrees; kept = with_living s t m g.machine inner g.kept refl refl refl },
+      )
+      change (return v) t d g = (
+        return v,
+        record t { living = s.living },
+        unscoped s.living (return v) t (g.kept).same_living,
+        refl,
+        refl,
+        refl,
+        record { machine = g.machine; value = g.value; is_there = g.is_there; same_value = g.same_value; agrees = agrees_living t g.machine s.living g.agrees; kept = with_living s t m g.machine inner g.kept refl refl refl },
+      )
       change break t d g = absurd g
       change continue t d g = absurd g
 

@@ -1,5 +1,5 @@
 -- Which code stands for a contract assertion that one party evaluates in the order of the source and at most once: the patterns follow [basic.contract.eval] and [basic.contract.handler] of P2900R14; the instructions are this project's own.
-use Rattle.std.specs.Prelude.{◌≡◌, ◌⊎◌, ℕ, Option, Some, None, slice_get}
+use Rattle.std.specs.Prelude.{◌≡◌, ◌⊎◌, ℕ, Some, None, slice_get}
 use Rattle.cx_code.specs.declared.image.Image.{Image}
 use Rattle.cx_code.specs.declared.operation.Operation.TheVariants as does
 use Rattle.cx_code.specs.declared.operation.Scalar.TheVariants as scalars

@@ -1,5 +1,5 @@
 -- Which code stands for statements: a relation between a tree and the places where its code begins, where it goes on, and where a value is returned, by recursion on the tree. This is this project's own.
-use Rattle.std.specs.Prelude.{◌≡◌, ℕ, List, []}
+use Rattle.std.specs.Prelude.{◌≡◌, ℕ, []}
 use Rattle.cx_code.specs.declared.image.Image.{Image}
 use Rattle.cx_code.specs.declared.operation.Operation.TheVariants as does
 use Rattle.cx_code.specs.State.{State}

@@ -1,5 +1,5 @@
 -- Which image stands for a program of one function without variables, `main`: this project's own.
-use Rattle.std.specs.Prelude.{◌≡◌, ℕ, pos, Bool, true, false, List, [], Option, Some, slice_get, ◌+◌, length}
+use Rattle.std.specs.Prelude.{◌≡◌, ℕ, pos, Bool, true, false, [], Some, slice_get, ◌+◌, length}
 use Rattle.cx_code.specs.declared.image.Image.{Image}
 use Rattle.cx_code.specs.declared.image.Function.{Function}
 use Rattle.cx_code.specs.declared.operation.Operation.TheVariants as does

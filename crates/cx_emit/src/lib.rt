@@ -3,4 +3,7 @@
 
 mod laws;
 
-pub use laws::{checks_are_followed, expressions_are_followed, images_of_main_are_faithful, operands_are_followed};
+pub use laws::{
+    checks_are_followed, expressions_are_followed, images_of_main_are_faithful,
+    operands_are_followed,
+};

@@ -2,7 +2,7 @@
 use Rattle.std.proofs.Common.{◌≡◌, ℕ, zero, suc, ◌+◌, ◌-◌, ◌≤◌, List, [], ◌∷◌, Option, Some, None, refl, sym, ap, ◌∙◌, subst, arith}
 use Rattle.cx_core.specs.Words.{Ending}
 use Rattle.cx_core.specs.Event.{Evaluation, Event, ended, going, waiting, not_a_run, out, input, input_end, begin, verdict, handler, throw, catch, destroyed}
-use Rattle.cx_core.specs.Outcome.{Exception, State, Outcome, on, thrown, over, Does, Nothing, nothing, after, either, gives, throws, spend, spend_of}
+use Rattle.cx_core.specs.Outcome.{Exception, State, Outcome, on, thrown, over, Does, nothing, after, either, gives, throws, spend, spend_of}
 use Rattle.cx_simulation.specs.Machine.{Progress, goes, halts, noted, begun, halted, onwards, exec, Takes, ahead, begins_ahead}
 use Rattle.cx_simulation.specs.Parts.{Account, IsSum, IsCaught, IsWithin, Leads, Halts, Stays, Comes, Follows, StepsTo, Steps}
 

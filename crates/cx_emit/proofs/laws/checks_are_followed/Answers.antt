@@ -1,8 +1,6 @@
 use Rattle.std.proofs.Common.{arith}
 use Rattle.cx_simulation.specs.ImageMachine.{image_step}
-use Rattle.cx_simulation.specs.Parts.{Follows}
 use Rattle.cx_simulation.proofs.Parts.{follows_less}
-use Rattle.cx_core.specs.Tree.{Check}
 use Rattle.cx_emit.specs.Configuration.{running_at, IsAt, Flies}
 use Rattle.cx_emit.specs.Laws.{of_statement}
 use Rattle.cx_emit.proofs.Asserting.{Never}
