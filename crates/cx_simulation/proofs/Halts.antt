@@ -1,8 +1,6 @@
 -- No step of the machine of an image ends the run as the limit of steps does.
-use Rattle.std.proofs.Common.{◌≡◌, ◌≢◌, ℕ, ◌+◌, ◌-◌, ℤ, pos, negsuc, Bool, true, false, ◌==◌, List, [], ◌∷◌, ◌++◌, Option, Some, None, if◌then◌else◌, length, take, drop, reverse, slice_get, refl, sym}
+use Rattle.std.proofs.Common.{◌≡◌, ◌≢◌, ℕ, ◌-◌, ℤ, pos, negsuc, Bool, true, false, ◌==◌, List, [], ◌∷◌, ◌++◌, Option, Some, None, if◌then◌else◌, length, take, drop, reverse, slice_get}
 use Rattle.std.specs.Prelude.{nat_le}
-use Rattle.std.specs.Option.{option_map, option_and_then}
-use Rattle.cx_code.specs.declared.code.Instruction.{Instruction}
 use Rattle.cx_code.specs.declared.code.Region.{Region}
 use Rattle.cx_code.specs.declared.image.Image.{Image}
 use Rattle.cx_code.specs.declared.image.Function.{Function}
@@ -17,14 +15,14 @@ use Rattle.cx_code.specs.declared.run.Event.TheVariants as notes
 use Rattle.cx_code.specs.declared.run.Value.{Value}
 use Rattle.cx_code.specs.declared.run.Value.TheVariants as values
 use Rattle.cx_code.specs.Arithmetic.{Computed, Gives, Fails, is_int}
-use Rattle.cx_code.specs.State.{State, Frame, Exception, Violated, Control, Runs, Unwinds}
+use Rattle.cx_code.specs.State.{State, Frame, Exception, Control, Runs, Unwinds}
 use Rattle.cx_code.specs.Act.{Step, Goes, Ends, act, undefined, mixed, on_value, on_number, on_address, on_object, on_some, on_slot, on_loaded, on_computed, on_natural, next, field_value, copied_to, copied_from, is_too_deep, entered, called, returned, left, return_from, read, thrown_again, held_address, is_kept, released, dropped, resumed}
 use Rattle.cx_code.specs.Unwind.{is_caught, tried, tried_at, gone, moved_to, next_region, regions_of, unwound}
 use Rattle.cx_code.specs.Run.{step, operation_now, acted, controlled}
 use Rattle.cx_core.specs.Words.{Ending, Kind, StepsSpent}
 use Rattle.cx_core.specs.Event.{Event}
-use Rattle.cx_simulation.specs.Machine.{Progress, halts}
-use Rattle.cx_simulation.specs.ImageMachine.{named, progress, image_step}
+use Rattle.cx_simulation.specs.Machine.{halts}
+use Rattle.cx_simulation.specs.ImageMachine.{progress, image_step}
 use Rattle.cx_simulation.proofs.Steps.{HaltsItself}
 
 data NotSpent : Step → Type 0 where

@@ -1,17 +1,16 @@
 -- A run of the machine of an image, with the names of its events.
 use Rattle.std.proofs.Common.{◌≡◌, ℕ, zero, suc, ◌+◌, List, [], ◌∷◌, ◌++◌, map, reverse, Option, Some, None, refl, sym, ap, ◌∙◌, arith, append-nil, append_assoc}
 use Rattle.std.specs.Option.{option_map, option_to_list}
-use Rattle.std.proofs.lemmas.List.{reverse-append, map-append}
+use Rattle.std.proofs.lemmas.List.{reverse-append}
 use Rattle.cx_code.specs.declared.image.Image.{Image}
 use Rattle.cx_code.specs.declared.run.Event.{Event as Noted}
-use Rattle.cx_code.specs.declared.run.Run.{Run}
 use Rattle.cx_code.specs.State.{State}
 use Rattle.cx_code.specs.Act.{Step, Goes, Ends}
 use Rattle.cx_code.specs.Run as code
 use Rattle.cx_core.specs.Words.{Ending}
 use Rattle.cx_core.specs.Event.{Event}
 use Rattle.cx_core.specs.Runs.{MachineRun}
-use Rattle.cx_simulation.specs.Machine.{Progress, noted, onwards, run_from}
+use Rattle.cx_simulation.specs.Machine.{noted, onwards, run_from}
 use Rattle.cx_simulation.specs.ImageMachine.{named, progress, image_step, named_run}
 
 abbrev pub run_of : List Event → Ending → ℕ → MachineRun

@@ -1,16 +1,15 @@
 -- What a followed machine runs is permitted.
-use Rattle.std.proofs.Common.{◌≡◌, ◌≢◌, ℕ, zero, suc, ◌+◌, ◌-◌, ◌*◌, ◌/◌, ◌<◌, ◌≤◌, List, [], ◌++◌, map, reverse, Option, refl, sym, ap, ◌∙◌, subst, arith}
+use Rattle.std.proofs.Common.{◌≡◌, ◌≢◌, ℕ, zero, suc, ◌+◌, ◌-◌, ◌*◌, ◌/◌, ◌≤◌, List, [], map, reverse, Option, refl, sym, ap, ◌∙◌, subst, arith}
 use Rattle.std.proofs.Math.Nat.{mul-div-le}
-use Rattle.cx_code.specs.declared.image.Image.{Image}
 use Rattle.cx_code.specs.State.{initial}
 use Rattle.cx_code.specs.Run.{machine}
 use Rattle.cx_core.specs.Words.{Ending, Returned, ContractTerminated, Terminated, Undefined, TooDeep, StepsSpent, Stopped, NotStarted}
 use Rattle.cx_core.specs.Program.{Program}
-use Rattle.cx_core.specs.Event.{Event, Evaluation, Answer, ended, going, not_a_run, begins_of}
+use Rattle.cx_core.specs.Event.{Event, Evaluation, ended, going, not_a_run, begins_of}
 use Rattle.cx_core.specs.Outcome.{either, spend}
 use Rattle.cx_core.specs.Meaning.{Meaning, mean, mean_within, calls_within}
-use Rattle.cx_core.specs.Runs.{IsPrefix, IsRun, IsBegun, IsCutRun, IsPermitted, AreBytes, MachineRun, meant, factor}
-use Rattle.cx_simulation.specs.Machine.{Progress, goes, halts, noted, Came, spent, halted, onwards, exec, begins_ahead, run_from}
+use Rattle.cx_core.specs.Runs.{IsPrefix, IsRun, IsBegun, IsCutRun, IsPermitted, MachineRun, meant, factor}
+use Rattle.cx_simulation.specs.Machine.{Progress, goes, halts, noted, spent, halted, onwards, exec, begins_ahead, run_from}
 use Rattle.cx_simulation.specs.ImageMachine.{named, image_step, image_run}
 use Rattle.cx_simulation.specs.Laws.{IsFollowed, FollowedRunsArePermitted}
 use Rattle.cx_simulation.proofs.Steps.{HaltsItself, prefix_of, Begins, tells}

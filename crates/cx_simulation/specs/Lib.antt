@@ -1,3 +1,4 @@
 pub mod Machine
 pub mod ImageMachine
 pub mod Laws
+pub mod Parts

@@ -4,4 +4,4 @@
 
 mod laws;
 
-pub use laws::followed_runs_are_permitted;
+pub use laws::{followed_calls_of_main_are_permitted, followed_runs_are_permitted};

@@ -1,0 +1,11 @@
+mod Numbers
+mod Bits
+mod Places
+mod Operators
+mod Expressions
+mod Operands
+mod Asserting
+mod Evaluating
+mod Stating
+mod Starting
+mod Example

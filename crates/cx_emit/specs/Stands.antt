@@ -1,0 +1,54 @@
+-- Which code stands for an expression: a relation between a tree and the places where its code begins and where it goes on, by recursion on the tree. This is this project's own.
+use Rattle.std.specs.Prelude.{◌≡◌, ◌⊎◌, ℕ, pos, Option, Some, None}
+use Rattle.cx_code.specs.declared.image.Image.{Image}
+use Rattle.cx_code.specs.declared.operation.Operation.{Operation}
+use Rattle.cx_code.specs.declared.operation.Operation.TheVariants as does
+use Rattle.cx_code.specs.declared.operation.Scalar.TheVariants as scalars
+use Rattle.cx_core.specs.declared.number.IntegerType.{IntegerType}
+use Rattle.cx_core.specs.declared.number.IntegerType.TheVariants as types
+use Rattle.cx_core.specs.Operators.{integer_of}
+use Rattle.cx_core.specs.Tree.{ObjectType, scalar, pointer, class, Constant, number, nullptr, Expr, literal, global, unary, binary, Operand, operand}
+use Rattle.cx_emit.specs.Configuration.{Has}
+use Rattle.cx_emit.specs.Operations.{scalar_of, unary_operation, binary_operation}
+
+module _ (image : Image) (function : ℕ) where
+  -- the instruction that there is for it
+  abbrev pub HasSome : ℕ → Option Operation → ℕ → Type 0
+  HasSome from None to = ⊥
+  HasSome from (Some operation) to = Has image function from operation to
+
+  -- a number of 2^63 or more has an instruction of its own
+  abbrev pub StandsConstant : Constant → ℕ → ℕ → Type 0
+  StandsConstant (number n) from to = Has image function from (does.Push n) to ⊎ ((k : ℕ) × (n ≡ pos k) × Has image function from (does.PushBig k) to)
+  StandsConstant nullptr from to = Has image function from does.PushNull to
+
+  -- a number of the greatest type may stand in a leaf less 2^64; an object of an enumeration is read by a handler alone
+  abbrev pub StandsNumberLoad : Option IntegerType → ℕ → ℕ → Type 0
+  StandsNumberLoad None from to = ⊥
+  StandsNumberLoad (Some types.UnsignedLongLong) from to = (mid : ℕ) × Has image function from does.Load mid × Has image function mid (does.Convert scalars.UnsignedLongLong) to
+  StandsNumberLoad (Some type) from to = Has image function from does.Load to
+
+  abbrev pub StandsLoad : ObjectType → ℕ → ℕ → Type 0
+  StandsLoad (scalar s) from to = StandsNumberLoad (integer_of s) from to
+  StandsLoad pointer from to = Has image function from does.Load to
+  StandsLoad (class index) from to = ⊥
+
+  abbrev pub StandsRead : Option ObjectType → ℕ → ℕ → Type 0
+  StandsRead None from to = to ≡ from
+  StandsRead (Some type) from to = StandsLoad type from to
+
+  abbrev pub StandsConversion : Option IntegerType → ℕ → ℕ → Type 0
+  StandsConversion None from to = to ≡ from
+  StandsConversion (Some type) from to = Has image function from (does.Convert (scalar_of type)) to
+
+  unfoldable mutual
+    -- from the one place the code evaluates the expression, and goes on at the other; none does for a form that isn't here
+    pub StandsExpr : Expr → ℕ → ℕ → Type 0
+    StandsExpr (literal c) from to = StandsConstant c from to
+    StandsExpr (global index) from to = Has image function from (does.Global index) to
+    StandsExpr (unary operator type a) from to = (p : ℕ) × StandsOperand a from p × HasSome p (unary_operation operator type) to
+    StandsExpr (binary operator type a b) from to = (p q : ℕ) × StandsOperand a from p × StandsOperand b p q × HasSome q (binary_operation operator type) to
+    StandsExpr other from to = ⊥
+
+    pub StandsOperand : Operand → ℕ → ℕ → Type 0
+    StandsOperand (operand read conversion e) from to = (p q : ℕ) × StandsExpr e from p × StandsRead read p q × StandsConversion conversion q to
