@@ -1,0 +1,6 @@
+//! The tree of a list of marks.
+#![tactic(auto)]
+
+mod tree;
+
+pub use tree::parse;
