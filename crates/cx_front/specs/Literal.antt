@@ -1,0 +1,29 @@
+-- The literals of the language that is built so far: a part of [lex.icon].
+use Rattle.std.specs.Prelude.{ℕ, ◌+◌, ◌-◌, ◌*◌, List, [], ◌∷◌, length, Bool, true, false, ◌==◌, ◌&&◌, nat_le, fold, if◌then◌else◌, Option, Some, None}
+
+abbrev pub is_digit : ℕ → Bool
+is_digit byte = nat_le 48 byte && nat_le byte 57
+
+-- digits, with a single `'` between two where one wishes; `opened` says that a digit has to come
+abbrev pub is_digits : Bool → List ℕ → Bool
+is_digits opened [] = if opened then false else true
+is_digits opened (byte ∷ bytes) = if is_digit byte then is_digits false bytes else (if opened then false else (byte == 39 && is_digits true bytes))
+
+-- a decimal number without a leading zero, or the number 0
+abbrev pub is_decimal : List ℕ → Bool
+is_decimal [] = false
+is_decimal (byte ∷ bytes) = if byte == 48 then length bytes == 0 else is_digits true (byte ∷ bytes)
+
+-- the value of its digits, behind what stands before them
+abbrev pub value_behind : ℕ → List ℕ → ℕ
+value_behind value bytes = fold (λ value byte. if byte == 39 then value else value * 10 + (byte - 48)) value bytes
+
+abbrev pub decimal_value : List ℕ → ℕ
+decimal_value bytes = value_behind 0 bytes
+
+abbrev pub greatest_int : ℕ
+greatest_int = 2147483647
+
+-- the value of a decimal number of type int
+abbrev pub int_value : List ℕ → Option ℕ
+int_value bytes = if is_decimal bytes && nat_le (decimal_value bytes) greatest_int then Some (decimal_value bytes) else None
