@@ -1,3 +1,3 @@
-pub mod Marks
+pub mod Placeless
 pub mod Bounds
 pub mod Firsts

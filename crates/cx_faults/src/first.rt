@@ -6,10 +6,9 @@ ghost use Rattle.cx_faults.specs.declared.fault.ListFault.{ListFault as Fault};
 ghost use Rattle.cx_faults.specs.Faults.{marks_of, GetsFault, HasFile, IsCause, IsFaultless, IsList, IsListFault};
 
 use crate::fault::ListFault;
+use crate::marked::marks;
 use crate::place::place_at;
-use crate::spelled::spelled;
 use cx_includes::{Assembled, open_tokens};
-use cx_marks::marks_of;
 use cx_outside::{Limit, NoMemory};
 use cx_parser::{ParseFault, recognize};
 use std::alloc::Global;
@@ -48,10 +47,7 @@ fn syntax_place(alloc: Global, list: &Assembled) -> Result<Option<usize>, NoMemo
     requires few { length list.now.placed < 2 ^ 32 - 3 }
     ensures { IfOk result (λ place. MatchOption place (Grammatical (marks_of list.now)) (IsPlace (marks_of list.now))) }
 {
-    let tokens = spelled(alloc, list)?;
-    let Ok(marks) = marks_of(alloc, tokens.as_slice()) else {
-        return Err(NoMemory);
-    };
+    let marks = marks(alloc, list)?;
     match recognize(alloc, marks.as_slice()) {
         Ok(()) => Ok(None),
         Err(ParseFault::SyntaxAt(at)) => Ok(Some(at)),

@@ -3,8 +3,10 @@
 
 mod fault;
 mod first;
+mod marked;
 mod place;
 mod spelled;
 
 pub use fault::{FaultPlace, ListFault};
 pub use first::first_fault;
+pub use marked::marks;

@@ -1,9 +1,10 @@
 -- The comment of a compound expression, by those of its parts.
 use Rattle.std.proofs.Common.{◌≡◌, ℕ, List, [], ◌∷◌, ◌++◌, refl, sym, ap, ◌∙◌, append_assoc}
 use Rattle.std.specs.List.{join_with_byte}
-use Rattle.cx_tool.specs.declared.tree.Expr.{Expr}
-use Rattle.cx_tool.specs.declared.tree.Expr.TheVariants.{Number, Paren', Less'}
-use Rattle.cx_tool.specs.Grammar.{spell, comment_of}
+use Rattle.cx_front.specs.declared.source.Expr.{Expr}
+use Rattle.cx_front.specs.declared.source.Expr.TheVariants.{Number, Paren', Less'}
+use Rattle.cx_front.specs.Spell.{spell}
+use Rattle.cx_tool.specs.Comment.{comment_of}
 
 -- an expression has a first token
 first_token : (e : Expr) → (first : List ℕ) × ((rest : List (List ℕ)) × (spell e ≡ first ∷ rest))

@@ -9,9 +9,9 @@ use Rattle.cx_code.specs.declared.image.Assertion.{Assertion}
 use Rattle.cx_code.specs.declared.violation.Semantic.{Semantic}
 use Rattle.cx_code.specs.declared.violation.DetectionMode.{DetectionMode}
 use Rattle.cx_code.specs.Violation.{violation_of, text_at, name_of}
-use Rattle.cx_tool.specs.declared.tree.Check.{Check}
-use Rattle.cx_tool.specs.declared.tree.SourceUnit.{SourceUnit}
-use Rattle.cx_tool.specs.Grammar.{comment_of}
+use Rattle.cx_front.specs.declared.source.Check.{Check}
+use Rattle.cx_front.specs.declared.source.SourceUnit.{SourceUnit}
+use Rattle.cx_tool.specs.Comment.{comment_of}
 use Rattle.cx_tool.specs.Tables.{other_files, assertion_of, assertions_of, image_of}
 use Rattle.cx_tool.specs.Violations.{violation_at, violations_from, HasViolations}
 

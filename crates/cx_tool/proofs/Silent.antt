@@ -11,9 +11,9 @@ use Rattle.cx_code.specs.Act.{Step, Goes, Ends}
 use Rattle.cx_code.specs.Run.{step, with_front, run_from, after, machine}
 use Rattle.cx_code.specs.Output.{written_out_at, written_out}
 use Rattle.cx_machine.specs.Outcome.{BeginsWith}
-use Rattle.cx_tool.specs.declared.tree.Expr.{Expr}
-use Rattle.cx_tool.specs.declared.tree.Check.{Check}
-use Rattle.cx_tool.specs.declared.tree.SourceUnit.{SourceUnit}
+use Rattle.cx_front.specs.declared.source.Expr.{Expr}
+use Rattle.cx_front.specs.declared.source.Check.{Check}
+use Rattle.cx_front.specs.declared.source.SourceUnit.{SourceUnit}
 use Rattle.cx_tool.specs.Meaning.{value_of}
 use Rattle.cx_code.specs.Arithmetic.{is_zero}
 use Rattle.cx_tool.specs.Code.{IsSmall}

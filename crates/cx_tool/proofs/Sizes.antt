@@ -1,28 +1,27 @@
 -- How large a unit is that is read from few tokens.
-use Rattle.std.proofs.Common.{◌≡◌, ℕ, zero, suc, ◌+◌, ◌-◌, ◌*◌, ◌<◌, ◌≤◌, List, [], ◌∷◌, ◌++◌, ◌==◌, length, map, Bool, true, false, cond, inl, inr, All, refl, sym, ap, ◌∙◌, arith, length-append, codes, lit≤, ne_eqb, eq-eqb, eqb-true}
+use Rattle.std.proofs.Common.{◌≡◌, ℕ, zero, suc, ◌+◌, ◌-◌, ◌*◌, ◌<◌, ◌≤◌, List, [], ◌∷◌, ◌++◌, ◌==◌, length, Bool, true, false, cond, inl, inr, All, refl, sym, ap, ◌∙◌, arith, length-append, codes, lit≤, ne_eqb, eq-eqb, eqb-true}
 use Rattle.std.specs.Prelude.{nat_le, slice_get, unwrap_or}
 use Rattle.std.specs.Option.{option_map}
 use Rattle.std.specs.List.{flat_map, join_with_byte, AllByRecursion}
 use Rattle.std.proofs.lemmas.Bool.{cases_Bool, cases_lt, and_parts, true≢false, leb-true}
-use Rattle.std.proofs.lemmas.List.{length-map}
 use Rattle.std.proofs.lemmas.List.Elements.{All-from_recursion}
 use Rattle.cx_includes.specs.declared.assembled.Assembled.{Assembled}
-use Rattle.cx_includes.specs.declared.assembled.Placed.{Placed}
 use Rattle.cx_includes.specs.declared.assembled.SourceFile.{SourceFile}
-use Rattle.cx_includes.specs.Assembled.{bytes_of_placed}
-use Rattle.cx_tool.specs.declared.tree.Expr.{Expr}
-use Rattle.cx_tool.specs.declared.tree.Expr.TheVariants.{Number, Paren', Less'}
-use Rattle.cx_tool.specs.declared.tree.Check.{Check}
-use Rattle.cx_tool.specs.declared.tree.SourceUnit.{SourceUnit}
-use Rattle.cx_tool.specs.Literal.{is_digit, is_digits, is_decimal, value_behind, decimal_value}
-use Rattle.cx_tool.specs.Grammar.{spell, spell_check, spell_unit, IsShaped, IsUnitOf, Place, place_of_check, place_of_token, assertion_words}
+use Rattle.cx_front.specs.declared.source.Expr.{Expr}
+use Rattle.cx_front.specs.declared.source.Expr.TheVariants.{Number, Paren', Less'}
+use Rattle.cx_front.specs.declared.source.Check.{Check}
+use Rattle.cx_front.specs.declared.source.SourceUnit.{SourceUnit}
+use Rattle.cx_front.specs.Literal.{is_digit, is_digits, is_decimal, value_behind, decimal_value}
+use Rattle.cx_front.specs.Front.{IsUnitOf}
+use Rattle.cx_front.specs.Spell.{spell, spell_check}
+use Rattle.cx_front.proofs.Sizes.{HasLiterals, IsMadeCheck, length_unit, made}
 use Rattle.cx_tool.specs.Ints.{HasInts}
 use Rattle.cx_tool.specs.Code.{instruction, expr_code, check_code, checks_code, value_code, IsSmall, IsSmallCheck}
 use Rattle.cx_tool.proofs.Emitted.{length_check}
 
 -- ---- an expression
 
-has_ints : (e : Expr) → IsShaped e → HasInts e
+has_ints : (e : Expr) → HasLiterals e → HasInts e
 has_ints (Number n spelling) shaped = shaped.2
 has_ints (Paren' p e) shaped = has_ints e shaped
 has_ints (Less' p a q b) shaped = (has_ints a shaped.0, has_ints b shaped.1)
@@ -128,7 +127,7 @@ joined [] w p q = q
 joined (x ∷ v) w p q = (p.0, joined v w p.1 q)
 
 -- each token of an expression has at most so many bytes
-short_words : (e : Expr) → IsShaped e → AllByRecursion (λ (word : List ℕ). length word ≤ 31) (spell e)
+short_words : (e : Expr) → HasLiterals e → AllByRecursion (λ (word : List ℕ). length word ≤ 31) (spell e)
 short_words (Number n x) shaped = (short_literal x shaped.0 (omega (arith, shaped.1, shaped.2)), tt)
 short_words (Paren' p e) shaped = (lit≤ tt, joined (spell e) (codes ")" ∷ []) (short_words e shaped) (lit≤ tt, tt))
 short_words (Less' p a q b) shaped = joined (spell a) (codes "<" ∷ spell b) (short_words a shaped.0) (lit≤ tt, short_words b shaped.1)
@@ -142,6 +141,14 @@ some_words : (e : Expr) → 1 ≤ length (spell e)
 some_words (Number n spelling) = omega arith
 some_words (Paren' p e) = omega arith
 some_words (Less' p a q b) = omega (arith, some_words a, length-append (spell a) (codes "<" ∷ spell b))
+
+-- ---- names of files
+
+-- the file of a token has a short name
+short_name : (files : List SourceFile) (file : ℕ) → All (λ (source : SourceFile). length source.name ≤ 1024) files → length (unwrap_or (option_map (λ (source : SourceFile). source.name) (slice_get files file)) []) ≤ 1024
+short_name [] file short = omega arith
+short_name (x ∷ xs) zero short = short 0 x (omega arith)
+short_name (x ∷ xs) (suc file) short = short_name xs file (λ k d lt. short (suc k) d (omega arith))
 
 -- ---- a unit
 
@@ -158,53 +165,28 @@ few_checks (c ∷ cs) = omega (arith, few_checks cs, length-append (spell_check 
 length_words : (check : Check) → length (spell_check check) ≡ 4 + length (spell check.predicate)
 length_words check = omega (arith, length-append (spell check.predicate) (codes ")" ∷ codes ";" ∷ []))
 
-small_checks : (checks : List Check) → All (λ (check : Check). IsShaped check.predicate) checks → AllByRecursion (λ (check : Check). length check.file ≤ 1024) checks → length (flat_map spell_check checks) ≤ 4096 → AllByRecursion IsSmallCheck checks
-small_checks [] shaped files few = tt
-small_checks (c ∷ cs) shaped files few =
+small_checks : (list : Assembled) (checks : List Check) → AllByRecursion (IsMadeCheck list) checks → All (λ (source : SourceFile). length source.name ≤ 1024) list.files → length (flat_map spell_check checks) ≤ 4096 → AllByRecursion IsSmallCheck checks
+small_checks list [] shaped short few = tt
+small_checks list (c ∷ cs) shaped short few =
     let words = length-append (spell_check c) (flat_map spell_check cs) in
     let here = length_words c in (
       record {
-        ints = has_ints c.predicate (shaped 0 c (omega arith));
+        ints = has_ints c.predicate shaped.0.literals;
         predicate = omega (arith, short_code c.predicate);
-        comment = omega (arith, short_join (spell c.predicate) (short_words c.predicate (shaped 0 c (omega arith))));
-        file = files.0;
+        comment = omega (arith, short_join (spell c.predicate) (short_words c.predicate shaped.0.literals));
+        file = omega (arith, ap (λ (name : List ℕ). length name) shaped.0.named, short_name list.files shaped.0.file short);
       },
-      small_checks cs (λ k d lt. shaped (suc k) d (omega arith)) files.1 (omega arith),
+      small_checks list cs shaped.1 short (omega arith),
     )
-
--- what a unit spells is its checks, eight words and its value
-length_unit : (unit : SourceUnit) → length (spell_unit unit) ≡ 8 + length (flat_map spell_check unit.checks) + length (spell unit.value)
-length_unit unit =
-    let end = codes ";" ∷ codes "}" ∷ [] in
-    let rest = codes "return" ∷ (spell unit.value ++ end) in
-    omega (arith, length-append (flat_map spell_check unit.checks) rest, length-append (spell unit.value) end)
-
--- ---- names of files
-
--- the file of a token has a short name
-short_name : (files : List SourceFile) (file : ℕ) → All (λ (source : SourceFile). length source.name ≤ 1024) files → length (unwrap_or (option_map (λ (source : SourceFile). source.name) (slice_get files file)) []) ≤ 1024
-short_name [] file short = omega arith
-short_name (x ∷ xs) zero short = short 0 x (omega arith)
-short_name (x ∷ xs) (suc file) short = short_name xs file (λ k d lt. short (suc k) d (omega arith))
-
--- so have those of assertions
-short_files : (list : Assembled) (checks : List Check) (words : List Placed) → All (λ (source : SourceFile). length source.name ≤ 1024) list.files → map place_of_check checks ≡ map (place_of_token list) words
-    → AllByRecursion (λ (check : Check). length check.file ≤ 1024) checks
-short_files list [] words short e = tt
-short_files list (c ∷ cs) [] short e = absurd cc
-short_files list (c ∷ cs) (w ∷ ws) short e =
-    let here : place_of_check c ≡ place_of_token list w = cc in
-    let rest : map place_of_check cs ≡ map (place_of_token list) ws = cc in
-    (omega (arith, ap (λ (p : Place). length p.file) here, short_name list.files w.file short), short_files list cs ws short rest)
 
 pub is_small : (list : Assembled) (unit : SourceUnit) → length list.placed ≤ 4096 → All (λ (source : SourceFile). length source.name ≤ 1024) list.files → IsUnitOf list unit → IsSmall unit
 is_small list unit few short is =
-    let count : length (spell_unit unit) ≤ 4096 = omega (arith, ap length is.spelled.tree, length-map list.placed (bytes_of_placed list)) in
+    let its = made list unit is in
     let words = length_unit unit in
     record {
-      checks = omega (arith, few_checks unit.checks);
-      each_check = All-from_recursion IsSmallCheck unit.checks (small_checks unit.checks is.spelled.checks (short_files list unit.checks (assertion_words list) short is.places) (omega arith));
-      ints = has_ints unit.value is.spelled.value;
-      value = omega (arith, short_code unit.value);
-      code = omega (arith, short_checks 0 0 unit.checks, short_code unit.value, length-append (checks_code 0 0 unit.checks) (value_code unit.value), length-append (expr_code unit.value) (instruction 39 0 0 ∷ []));
+      checks = omega (arith, its.tokens, few_checks unit.checks);
+      each_check = All-from_recursion IsSmallCheck unit.checks (small_checks list unit.checks its.checks short (omega (arith, its.tokens)));
+      ints = has_ints unit.value its.value;
+      value = omega (arith, its.tokens, short_code unit.value);
+      code = omega (arith, its.tokens, short_checks 0 0 unit.checks, short_code unit.value, length-append (checks_code 0 0 unit.checks) (value_code unit.value), length-append (expr_code unit.value) (instruction 39 0 0 ∷ []));
     }

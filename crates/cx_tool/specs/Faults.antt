@@ -15,7 +15,7 @@ use Rattle.cx_tool.specs.declared.answer.Answer.{Answer}
 use Rattle.cx_tool.specs.declared.answer.Answer.TheVariants as answers
 use Rattle.cx_tool.specs.declared.answer.Rule.{Rule}
 use Rattle.cx_tool.specs.declared.answer.Rule.TheVariants as rules
-use Rattle.cx_tool.specs.Grammar.{name_of_file}
+use Rattle.cx_front.specs.Front.{name_of_file}
 
 -- the unit is refused at a place of one of its files
 abbrev pub refused : List ℕ → List ℕ → ℕ → ℕ → Rule → Answer

@@ -16,9 +16,9 @@ use Rattle.cx_tool.specs.declared.answer.Answer.TheVariants as answers
 use Rattle.cx_tool.specs.declared.answer.Stream.TheVariants as streams
 use Rattle.cx_tool.specs.declared.answer.Report.{Report}
 use Rattle.cx_tool.specs.declared.answer.Refusal.{Refusal}
-use Rattle.cx_tool.specs.declared.tree.SourceUnit.{SourceUnit}
+use Rattle.cx_front.specs.declared.source.SourceUnit.{SourceUnit}
 use Rattle.cx_tool.specs.Words.{named, NamesUnit, OfNames, HasLongName}
-use Rattle.cx_tool.specs.Grammar.{IsSpelling, IsOutside, words_of, most_tokens}
+use Rattle.cx_front.specs.Front.{IsUnitOf, IsOutside, most_tokens}
 use Rattle.cx_tool.specs.Faults.{fault_answer, list_fault_answer, HasFault, HasUnitFault}
 use Rattle.cx_tool.specs.Closing.{closing_text, status_of}
 use Rattle.cx_tool.specs.Report.{not_started, Comes, IsEarly, HasClosingLine, IsRan, HasBegun, IsUnbuilt}
@@ -79,14 +79,14 @@ pub record Promises (words : List (List ℕ)) (seen : Seen) (report : Report) : 
   -- a name in them, or the tokens that are open at one place.
   pub too_many_has_cause : (limit : Limit) (count : ℕ) → report.answer ≡ answers.TooMany limit count
       → ((limit ≡ limits.Name) × HasLongName words count) ⊎ OfNames words (λ image unit. HasUnitFault seen.files (FilesFailed seen) unit (answers.TooMany limit count))
-  -- Unbuilt is answered only with the unit's name, where it has an assembled list without a fault, which no tree of the
-  -- language that is built so far spells, or which has too many tokens.
+  -- Unbuilt is answered only with the unit's name, where it has an assembled list without a fault, whose tree is no unit of
+  -- the language that is built so far, or which has too many tokens.
   pub unbuilt_has_cause : (name : List ℕ) → report.answer ≡ answers.Unbuilt name → NamesUnit words name × IsUnbuilt seen.files name
   -- Where the files tell such a list, and no call fails, Unbuilt is answered, or want of memory.
   pub unbuilt_comes : (unit : List ℕ) (folder : Folder) (list : Assembled) → NamesUnit words unit → seen.files ≡ Some folder → IsListOf folder unit list → IsFaultless list → IsOutside list → FilesHeld seen → ErrHeld seen
       → Comes report.answer (answers.Unbuilt unit)
   -- Where they tell a list without a fault that isn't so, and no call fails, the unit's program runs, or memory is wanted.
-  pub ran_comes : (unit : List ℕ) (folder : Folder) (list : Assembled) (tree : SourceUnit) → NamesUnit words unit → seen.files ≡ Some folder → IsListOf folder unit list → IsFaultless list → IsSpelling (words_of list) tree
+  pub ran_comes : (unit : List ℕ) (folder : Folder) (list : Assembled) (tree : SourceUnit) → NamesUnit words unit → seen.files ≡ Some folder → IsListOf folder unit list → IsFaultless list → IsUnitOf list tree
       → length list.placed ≤ most_tokens → FilesHeld seen → ErrHeld seen → Comes report.answer answers.Ran
   -- FileFault is answered only where a call on the files failed.
   pub file_fault_has_cause : report.answer ≡ answers.FileFault → FilesFailed seen

@@ -8,9 +8,9 @@ use Rattle.cx_code.specs.declared.violation.Semantic.{Semantic}
 use Rattle.cx_code.specs.declared.violation.DetectionMode.{DetectionMode}
 use Rattle.cx_code.specs.declared.violation.Violation.{Violation}
 use Rattle.cx_code.specs.Violation.{violation_of}
-use Rattle.cx_tool.specs.declared.tree.Check.{Check}
-use Rattle.cx_tool.specs.declared.tree.SourceUnit.{SourceUnit}
-use Rattle.cx_tool.specs.Grammar.{comment_of}
+use Rattle.cx_front.specs.declared.source.Check.{Check}
+use Rattle.cx_front.specs.declared.source.SourceUnit.{SourceUnit}
+use Rattle.cx_tool.specs.Comment.{comment_of}
 
 -- the violation of an assertion that has this ordinal in `main`
 abbrev pub violation_at : DetectionMode → Semantic → ℕ → Check → Violation

@@ -1,6 +1,6 @@
 use Rattle.std.proofs.Common.{◌≡◌, ◌++◌, take, map}
-use Rattle.cx_tool.specs.declared.tree.Check.{Check}
-use Rattle.cx_tool.specs.Grammar.{comment_of}
+use Rattle.cx_front.specs.declared.source.Check.{Check}
+use Rattle.cx_tool.specs.Comment.{comment_of}
 use Rattle.cx_tool.proofs.compile.put_comments.Given as goal
 
 abbrev pub invariant-loop-check : goal.invariant-loop-check

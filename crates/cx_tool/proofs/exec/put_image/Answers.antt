@@ -2,7 +2,7 @@ use Rattle.std.proofs.Common.{ℕ, List, Option, sym, ap, subst, ◌∙◌}
 use Rattle.cx_outside.specs.Told.{Rose-later}
 use Rattle.cx_tool.specs.declared.answer.Answer.{Answer}
 use Rattle.cx_tool.specs.declared.answer.Answer.TheVariants as answers
-use Rattle.cx_tool.specs.Grammar.{IsOutside}
+use Rattle.cx_front.specs.Front.{IsOutside}
 use Rattle.cx_outside.specs.Fault.{Rose}
 use Rattle.cx_outside.specs.Folder.{Folder, BothTold, Puts}
 use Rattle.cx_code.specs.Spelling.{image_spelling}
@@ -35,7 +35,7 @@ returns-in-Ok-clause-unbuilt_comes g c =
     λ folder list told is fine outside none.
     let same = c.in_ok-list.ensures.list_comes folder list told is (λ rose. none (Rose-later (g.F.Files.faults c.args.files.now) (g.F.Files.faults c.assembled.new.files) (g.F.Files.faults c.put.new.self) c.put.ensures.later rose)) in
     let compiled = c.in_ok-valid.ensures.compiled in
-    no_outside c.in_ok-list.list compiled.unit compiled.spelled.spelled c.in_ok-valid.ensures.few (subst IsOutside (sym same) outside)
+    no_outside c.in_ok-list.list compiled.unit compiled.spelled c.in_ok-valid.ensures.few (subst IsOutside (sym same) outside)
 
 pub returns-in_err-valid-clause-cause : goal.returns-in_err-valid-clause-cause
 returns-in_err-valid-clause-cause g c =

@@ -1,0 +1,4 @@
+pub mod Literal
+pub mod Plain
+pub mod Front
+pub mod Spell
