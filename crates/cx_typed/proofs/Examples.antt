@@ -14,10 +14,16 @@ use Rattle.cx_front.specs.Plain.{Plain, PlainUnit, number, parens, less}
 use Rattle.cx_typed.specs.Comment.{comment_of}
 use Rattle.cx_typed.specs.Typed.{as_int, program_of, no_checks}
 
-one two thirty seven : Plain
+one : Plain
 one = number 1 (codes "1")
+
+two : Plain
 two = number 2 (codes "2")
+
+thirty : Plain
 thirty = number 30 (codes "3'0")
+
+seven : Plain
 seven = number 7 (codes "7")
 
 -- int main(){ contract_assert(PREDICATE); return VALUE; }

@@ -3,7 +3,7 @@ use Rattle.std.proofs.Common.{◌≡◌, ℕ, Bool, true, false, ◌&&◌, if◌
 use Rattle.std.specs.Prelude.{IfSome, nat_le, option_map, slice_get}
 use Rattle.std.specs.List.{All}
 use Rattle.std.proofs.lemmas.Bool.{leb-true}
-use Rattle.std.proofs.lemmas.List.Elements.{All-push}
+use Rattle.std.proofs.lemmas.List.Elements.{All-nil, All-push}
 use Rattle.cx_syntax.specs.declared.mark.Mark.{Mark}
 use Rattle.cx_syntax.specs.declared.mark.Mark.TheVariants as M
 use Rattle.cx_syntax.specs.declared.mark.Punct.{Punct}
@@ -73,7 +73,7 @@ one_more (Some checks) None h k = tt {0}
 one_more (Some checks) (Some check) h k = All-push CheckHasInts checks check h k
 
 checks_have_ints : (list : Assembled) (b : Stmts) → IfSome (checks_in list b) (All CheckHasInts)
-checks_have_ints list no_stmts = tt {0}
+checks_have_ints list no_stmts = All-nil CheckHasInts
 checks_have_ints list (more_stmts b s) = one_more (checks_in list b) (check_in list s) (checks_have_ints list b) (check_has_ints list s)
 
 returned_has_ints : (list : Assembled) (e : Option tree.Expr) → IfSome (returned list e) HasInts

@@ -3,5 +3,6 @@ mod Keeps
 mod Expressions
 mod Statements
 mod Whole
+mod Images
 mod Tokens
 mod Examples

@@ -1,4 +1,5 @@
-ghost use Rattle.cx_typed.specs.Laws.{BuiltProgramsAreWellMade, BuiltProgramsHaveAMain, BuiltUnitsHaveInts, CommentsAreOfTheTokens};
+use cx_emit::images_of_main_are_faithful;
+ghost use Rattle.cx_typed.specs.Laws.{BuiltProgramsAreWellMade, BuiltProgramsHaveAMain, BuiltUnitsHaveInts, CommentsAreOfTheTokens, ImagesOfBuiltUnitsAreFaithful};
 
 /// Each number of a unit that an assembled list's tree is, is one of `int`: at most 2147483647.
 ///
@@ -16,13 +17,23 @@ pub fn built_programs_are_well_made()
 {}
 
 /// The program of each built unit is one of `main` alone, with the unit's assertions and `return` as its body, without
-/// preconditions and postconditions, and with the default violation handler. With the law before it these are the premises
-/// on a program under which an image that stands for it is faithful to it.
+/// preconditions and postconditions, and with the default violation handler.
 ///
 /// Source: this project's own, for [basic.start.main] of the C++ draft.
 pub fn built_programs_have_a_main()
     ensures { BuiltProgramsHaveAMain }
 {}
+
+/// An image that stands for the body of a built unit whose numbers are of `int`, under any of the four semantics, has only
+/// runs that the unit's program permits, if it has no violation handler and no globals: the other premises of
+/// `images_of_main_are_faithful` hold of each such program.
+///
+/// Source: this project's own.
+pub fn images_of_built_units_are_faithful()
+    ensures { ImagesOfBuiltUnitsAreFaithful }
+{
+    images_of_main_are_faithful();
+}
 
 /// The tokens that a comment is made of are those that spell the predicate.
 ///

@@ -5,5 +5,5 @@ mod laws;
 
 pub use laws::{
     built_programs_are_well_made, built_programs_have_a_main, built_units_have_ints,
-    comments_are_of_the_tokens,
+    comments_are_of_the_tokens, images_of_built_units_are_faithful,
 };
