@@ -1,5 +1,5 @@
 -- A typed expression gives a number of its type.
-use Rattle.std.proofs.Common.{◌≡◌, refl, ℕ, zero, suc, ◌≤◌, ℤ, pos, negsuc, Bool, true, false, ◌&&◌, List, [], ◌∷◌, Option, Some, None, arith}
+use Rattle.std.proofs.Common.{◌≡◌, refl, ℕ, zero, suc, ◌≤◌, pos, negsuc, Bool, true, false, ◌&&◌, None, arith}
 use Rattle.std.specs.Prelude.{int_le, int_lt, nat_le}
 use Rattle.std.proofs.lemmas.Bool.{le-leb, leb-true}
 use Rattle.cx_core.specs.declared.number.IntegerType.{IntegerType}
@@ -7,10 +7,10 @@ use Rattle.cx_core.specs.declared.number.IntegerType.TheVariants as types
 use Rattle.cx_core.specs.declared.number.BinaryOperator.TheVariants as operators
 use Rattle.cx_core.specs.Number.{in_range, truth_number}
 use Rattle.cx_core.specs.Store.{Value, number, address, null, violation}
-use Rattle.cx_core.specs.Outcome.{Does, gives, throws, either, spend}
+use Rattle.cx_core.specs.Outcome.{Does, throws, spend}
 use Rattle.cx_core.specs.Program.{Program}
 use Rattle.cx_core.specs.Leaving.{Calls}
-use Rattle.cx_core.specs.Operators.{converted, converted_to, read_as, operated, binary_operation}
+use Rattle.cx_core.specs.Operators.{converted, converted_to, operated, binary_operation}
 use Rattle.cx_core.specs.Meaning.{expr, used}
 use Rattle.cx_front.specs.Literal.{greatest_int}
 use Rattle.cx_front.specs.Plain as plain

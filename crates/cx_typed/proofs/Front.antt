@@ -1,5 +1,5 @@
 -- Each number of a unit that is read is one of `int`.
-use Rattle.std.proofs.Common.{◌≡◌, ℕ, Bool, true, false, ◌&&◌, if◌then◌else◌, List, [], ◌∷◌, ◌++◌, Option, Some, None, subst, refl}
+use Rattle.std.proofs.Common.{◌≡◌, ℕ, Bool, true, false, ◌&&◌, if◌then◌else◌, List, Option, Some, None, subst, refl}
 use Rattle.std.specs.Prelude.{IfSome, nat_le, option_map, slice_get}
 use Rattle.std.specs.List.{All}
 use Rattle.std.proofs.lemmas.Bool.{leb-true}
@@ -14,7 +14,7 @@ use Rattle.cx_includes.specs.declared.assembled.Assembled.{Assembled}
 use Rattle.cx_includes.specs.declared.assembled.Placed.{Placed}
 use Rattle.cx_front.specs.Literal.{greatest_int, is_decimal, decimal_value}
 use Rattle.cx_front.specs.Plain.{Plain, PlainCheck, PlainUnit, number, less}
-use Rattle.cx_front.specs.Front.{both, word_at, number_of, leaf_of, operator_of, expr_in, check_of, check_in, with_check, checks_in, returned, value_in, unit_with, body_in, main_in, unit_in}
+use Rattle.cx_front.specs.Front.{both, word_at, leaf_of, operator_of, expr_in, check_of, check_in, with_check, checks_in, returned, value_in, unit_with, body_in, main_in, unit_in}
 use Rattle.cx_typed.specs.Typed.{HasInts, UnitHasInts}
 use Rattle.cx_typed.specs.Laws.{BuiltUnitsHaveInts}
 

@@ -7,8 +7,7 @@ use Rattle.cx_code.specs.State.{with_globals}
 use Rattle.cx_core.specs.Words.{Semantic}
 use Rattle.cx_front.specs.Plain.{PlainUnit}
 use Rattle.cx_emit.specs.Values.{IsStore}
-use Rattle.cx_emit.specs.Checks.{HaveDefaultHandler}
-use Rattle.cx_emit.specs.Units.{IsMain, HaveGlobals, ImagesOfMainAreFaithful}
+use Rattle.cx_emit.specs.Units.{HaveGlobals, ImagesOfMainAreFaithful}
 use Rattle.cx_typed.specs.Typed.{program_of, body_of}
 use Rattle.cx_typed.specs.Laws.{BuiltProgramsHaveAMain, ImagesOfBuiltUnitsAreFaithful}
 use Rattle.cx_typed.proofs.Whole.{well_made}

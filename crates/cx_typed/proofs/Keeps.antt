@@ -1,8 +1,8 @@
 -- Parts of a run that keep the scope they are in and come to no end but a contract's, and how they go together.
-use Rattle.std.proofs.Common.{◌≡◌, refl, sym, ap, ◌∙◌, subst, ℕ, zero, suc, List, [], ◌∷◌, Option, Some, None}
-use Rattle.cx_core.specs.Words.{ContractTerminated, Returned, Terminated, Undefined, TooDeep, StepsSpent, Stopped, NotStarted}
-use Rattle.cx_core.specs.Event.{Evaluation, Event, Answer, ended, going, waiting, not_a_run}
-use Rattle.cx_core.specs.Outcome.{Living, Exception, Frame, State, Outcome, on, thrown, over, Does, Nothing, nothing, after, either, gives, throws, ends, current_frame, set_frame, current_living, set_living, current_temporaries, set_temporaries, append, spend, spend_of, ◌>>=◌, ◌>>◌}
+use Rattle.std.proofs.Common.{◌≡◌, refl, sym, ap, ◌∙◌, subst, ℕ, zero, suc, List, [], ◌∷◌, None}
+use Rattle.cx_core.specs.Words.{ContractTerminated}
+use Rattle.cx_core.specs.Event.{Evaluation, Event, Answer, ended}
+use Rattle.cx_core.specs.Outcome.{Living, Exception, Frame, State, Outcome, on, thrown, over, Does, Nothing, after, either, gives, throws, ends, current_frame, set_frame, current_living, set_living, current_temporaries, set_temporaries, append, spend, spend_of, ◌>>=◌, ◌>>◌}
 use Rattle.cx_core.specs.Block.{next_told, next_of, begin_told, begin_of}
 use Rattle.cx_core.specs.Program.{Program}
 use Rattle.cx_core.specs.Leaving.{Calls, within, in_unit, end_each, scope, full_expression}

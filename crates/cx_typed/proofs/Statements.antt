@@ -1,20 +1,20 @@
 -- The assertion statements of a built unit go on or end the run by a contract, and its `return` gives a number of `int`.
-use Rattle.std.proofs.Common.{◌≡◌, refl, sym, subst, ℕ, ◌+◌, Bool, true, false, if◌then◌else◌, List, [], ◌∷◌, Option, Some, None}
+use Rattle.std.proofs.Common.{◌≡◌, ℕ, ◌+◌, Bool, true, false, if◌then◌else◌, List, [], ◌∷◌, Option, Some, None}
 use Rattle.std.specs.List.{All}
 use Rattle.std.proofs.lemmas.List.Elements.{All-head, All-tail}
 use Rattle.cx_core.specs.declared.number.IntegerType.{IntegerType}
 use Rattle.cx_core.specs.declared.number.IntegerType.TheVariants as types
 use Rattle.cx_core.specs.Words.{Definer, Semantic, Ignore, Observe, Enforce, QuickEnforce, False, Holds, PredicateFalse, Violation}
-use Rattle.cx_core.specs.Tree.{Check, Assertion, Stmts, Operand}
+use Rattle.cx_core.specs.Tree.{Check, Assertion}
 use Rattle.cx_core.specs.Store.{Value, number, address, null, violation}
-use Rattle.cx_core.specs.Event.{Evaluation, same_evaluation, verdict, handler, ended, not_a_run}
-use Rattle.cx_core.specs.Outcome.{Exception, Frame, Does, Nothing, nothing, either, gives, throws, ends, append, spend, current_frame}
-use Rattle.cx_core.specs.Block.{Owed, Continued, if_permitted, evaluations, next_told, begin_told}
+use Rattle.cx_core.specs.Event.{Evaluation, same_evaluation, verdict, handler, not_a_run}
+use Rattle.cx_core.specs.Outcome.{Does, Nothing, nothing, throws, spend, current_frame}
+use Rattle.cx_core.specs.Block.{Owed, if_permitted, evaluations, next_told}
 use Rattle.cx_core.specs.Check.{truth, handle, violated, verdict_on, verdict_threw, evaluation, violation_of}
 use Rattle.cx_core.specs.Program.{Program}
-use Rattle.cx_core.specs.Leaving.{Calls, full_expression}
+use Rattle.cx_core.specs.Leaving.{Calls}
 use Rattle.cx_core.specs.Statements.{Completion, on_to_next, break, continue, return, sequence}
-use Rattle.cx_core.specs.Meaning.{expr, used, evaluated, owed, checked, result_stored, returned, stmt, stmts}
+use Rattle.cx_core.specs.Meaning.{evaluated, checked, result_stored, returned, stmt, stmts}
 use Rattle.cx_front.specs.Plain.{Plain, PlainCheck, PlainUnit}
 use Rattle.cx_typed.specs.Typed.{type_of, as_int, as_predicate, assertion_of, check_of, statements_from, program_of, HasInts}
 use Rattle.cx_typed.proofs.Keeps.{Keeps, Always, HasNoResult, either_keeps, gives_keeps, ends_keep, append_keeps, spend_keeps, next_told_keeps, begin_told_keeps, current_frame_keeps, full_expression_keeps}

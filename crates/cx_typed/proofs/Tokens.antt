@@ -1,6 +1,5 @@
 -- The tokens of a comment are those of the expression.
-use Rattle.std.proofs.Common.{◌≡◌, refl, ap, ◌∙◌, List, [], ◌∷◌, ◌++◌, ℕ, codes}
-use Rattle.cx_front.specs.declared.source.Expr.{Expr}
+use Rattle.std.proofs.Common.{refl, ap, ◌∙◌, List, [], ◌∷◌, ◌++◌, ℕ, codes}
 use Rattle.cx_front.specs.declared.source.Expr.TheVariants.{Number, Paren', Less'}
 use Rattle.cx_front.specs.Plain.{plain}
 use Rattle.cx_front.specs.Spell.{spell}

@@ -1,19 +1,17 @@
 -- The program of a built unit is well made.
-use Rattle.std.proofs.Common.{◌≡◌, ◌≢◌, refl, sym, ap, ◌∙◌, subst, ℕ, zero, suc, ◌+◌, ℤ, true, List, [], ◌∷◌, length, Option, Some, None}
-use Rattle.std.specs.Prelude.{slice_get}
+use Rattle.std.proofs.Common.{◌≡◌, ◌≢◌, refl, sym, subst, ℕ, ℤ, true, List, [], None}
 use Rattle.cx_core.specs.declared.number.IntegerType.TheVariants as types
-use Rattle.cx_core.specs.Words.{Definer, Caller, Semantic, Returned, ContractTerminated, Undefined, Mixed}
+use Rattle.cx_core.specs.Words.{Semantic, Returned, Undefined, Mixed}
 use Rattle.cx_core.specs.Number.{in_range}
 use Rattle.cx_core.specs.Store.{Value, number, address, null, violation}
-use Rattle.cx_core.specs.Event.{Evaluation, Answer, ended, going, waiting, not_a_run}
-use Rattle.cx_core.specs.Outcome.{Does, Nothing, nothing, State, Outcome, on, thrown, over, either, gives, throws, some, spend, undone_by}
+use Rattle.cx_core.specs.Event.{Evaluation, ended}
+use Rattle.cx_core.specs.Outcome.{nothing, State, Outcome, on, thrown, over, throws, spend}
 use Rattle.cx_core.specs.Block.{evaluations}
-use Rattle.cx_core.specs.Program.{Program, Function, exit_status, function}
-use Rattle.cx_core.specs.Leaving.{Call, Calls, within, in_unit, scope}
+use Rattle.cx_core.specs.Program.{Program, Function, exit_status}
+use Rattle.cx_core.specs.Leaving.{Calls, within}
 use Rattle.cx_core.specs.Statements.{Completion, on_to_next, break, continue, return}
-use Rattle.cx_core.specs.Meaning.{Meaning, meaning_of, mean, mean_within, start, main_call, calls_within, implicit_within, active, acting, function_call, preconditions, postconditions, checked, body, value_given, destroy_result, unit_of, stmts}
+use Rattle.cx_core.specs.Meaning.{meaning_of, mean, mean_within, start, main_call, calls_within, implicit_within, active, acting, function_call, preconditions, postconditions, body, value_given, unit_of}
 use Rattle.cx_front.specs.Plain.{PlainUnit}
-use Rattle.cx_simulation.specs.Parts.{IsWellMade}
 use Rattle.cx_typed.specs.Typed.{main_of, body_of, program_of, UnitHasInts}
 use Rattle.cx_typed.specs.Laws.{BuiltProgramsAreWellMade}
 use Rattle.cx_typed.proofs.Keeps.{Keeps, Comes, IsEnd, Always, either_keeps, gives_keeps, spend_keeps, scope_keeps, within_keeps, in_unit_keeps}

@@ -1,5 +1,6 @@
-use cx_emit::images_of_main_are_faithful;
 ghost use Rattle.cx_typed.specs.Laws.{BuiltProgramsAreWellMade, BuiltProgramsHaveAMain, BuiltUnitsHaveInts, CommentsAreOfTheTokens, ImagesOfBuiltUnitsAreFaithful};
+
+use cx_emit::images_of_main_are_faithful;
 
 /// Each number of a unit that an assembled list's tree is, is one of `int`: at most 2147483647.
 ///
