@@ -1,0 +1,16 @@
+pub mod Comments
+pub mod Emitted
+pub mod Operations
+pub mod Parts
+pub mod Stands
+pub mod Assertions
+pub mod Main
+pub mod Limits
+pub mod Depths
+pub mod Reached
+pub mod Leads
+pub mod Instructions
+pub mod Straight
+pub mod Functions
+pub mod Stored
+pub mod Valid
