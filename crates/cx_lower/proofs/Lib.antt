@@ -14,3 +14,5 @@ pub mod Straight
 pub mod Functions
 pub mod Stored
 pub mod Valid
+pub mod Literals
+pub mod Sizes

@@ -11,6 +11,7 @@ use Rattle.cx_front.specs.declared.source.Check.{Check}
 use Rattle.cx_front.specs.declared.source.SourceUnit.{SourceUnit}
 use Rattle.cx_front.specs.Plain.{Plain, PlainCheck, PlainUnit, number, parens, less, plain, plain_check, plain_unit}
 use Rattle.cx_front.specs.Spell.{spell, spell_check, spell_unit}
+use Rattle.cx_front.proofs.Sizes.{length_unit}
 use Rattle.cx_typed.specs.Comment.{words_of, comment_of}
 use Rattle.cx_typed.specs.Typed.{type_of}
 use Rattle.cx_lower.specs.Code.{less_than, conversion_code, expr_code, int_code, violated_code, verdict_code, check_code, checks_code, return_code, value_code, body_code}
@@ -66,7 +67,7 @@ short_check Ignore start index e = omega arith
 short_check semantic start index e =
     omega (arith, short_violated semantic index, length-append (expr_code e) (verdict_code semantic (start + 1 + length (expr_code e)) index))
 
-length_check : (check : Check) → length (spell_check check) ≡ 4 + length (words_of (plain check.predicate))
+pub length_check : (check : Check) → length (spell_check check) ≡ 4 + length (words_of (plain check.predicate))
 length_check check = omega (arith, length_words check.predicate, length-append (spell check.predicate) (codes ")" ∷ codes ";" ∷ []))
 
 short_code : (semantic : Semantic) (start index : ℕ) (checks : List Check) → length (checks_code semantic start index (map plain_check checks)) ≤ 2 * length (flat_map spell_check checks)
@@ -91,17 +92,9 @@ short_checks (c ∷ cs) each few =
 
 -- ---- the unit
 
-length_unit : (unit : SourceUnit) → length (spell_unit unit) ≡ 8 + length (flat_map spell_check unit.checks) + length (words_of (plain unit.value))
-length_unit unit =
-    let front = codes "int" ∷ codes "main" ∷ codes "(" ∷ codes ")" ∷ codes "{" ∷ [] in
-    let checks = flat_map spell_check unit.checks in
-    let value = spell unit.value in
-    let back = codes ";" ∷ codes "}" ∷ [] in
-    omega (arith, length_words unit.value, length-append (front ++ checks) (codes "return" ∷ (value ++ back)), length-append front checks, length-append value back)
-
 pub is_short : (semantic : Semantic) (unit : SourceUnit) → IsSmall unit → IsShortUnit semantic (plain_unit unit)
 is_short semantic unit small =
-    let words = length_unit unit in
+    let words : length (spell_unit unit) ≡ 8 + length (flat_map spell_check unit.checks) + length (words_of (plain unit.value)) = omega (arith, length_unit unit, length_words unit.value) in
     let few = small.few in
     let plain_checks = map plain_check unit.checks in
     let checks = checks_code semantic 0 0 plain_checks in

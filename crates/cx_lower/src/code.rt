@@ -1,7 +1,7 @@
 ghost use Rattle.std.specs.Prelude.{◌≡◌, ℕ, ◌+◌, ◌^◌, ◌<◌, ◌≤◌, [], ◌∷◌, ◌++◌, length, map, IfOk, OnOk};
 ghost use Rattle.cx_front.specs.Plain.{plain, plain_check, plain_unit};
 ghost use Rattle.cx_typed.specs.Typed.{type_of};
-ghost use Rattle.cx_lower.specs.Code.{instruction, number_of, conversion_code, expr_code, int_code, violated_code, verdict_code, check_code, checks_code, return_code, body_code};
+ghost use Rattle.cx_lower.specs.Code.{instruction, call, returns, number_of, conversion_code, expr_code, int_code, violated_code, verdict_code, check_code, checks_code, return_code, body_code};
 ghost use Rattle.cx_lower.specs.Small.{IsSmall};
 
 use cx_code::{Instruction, Semantic};
@@ -41,7 +41,7 @@ const PREDICATE_FALSE: u32 = 8;
 
 /// The code of `main` itself: it calls the function with this index, and returns what that gives.
 pub fn call_code(alloc: Global, function: u32) -> Result<Items<Instruction>, NoMemory>
-    ensures { IfOk result (λ code. code ≡ instruction 38 function 0 ∷ instruction 39 0 0 ∷ []) }
+    ensures { IfOk result (λ code. code ≡ call function ∷ returns ∷ []) }
 {
     let mut code = Items::new(alloc);
     put(&mut code, CALL, function, 0)?;

@@ -3,6 +3,8 @@
 
 mod code;
 mod image;
+mod laws;
 mod tables;
 
 pub use image::lower;
+pub use laws::built_units_are_small;
