@@ -10,6 +10,7 @@ use cx_front::{Check, Expr, SourceUnit};
 use cx_outside::{Items, NoMemory};
 use std::alloc::Global;
 
+// The numbers of the machine's instructions that are used.
 const PUSH: u8 = 1;
 
 const LESS: u8 = 30;
