@@ -1,14 +1,14 @@
--- The names in the words.
-use Rattle.std.proofs.Common.{◌≡◌, ℕ, List, [], Option, Some, None, sym, ap, ◌∙◌}
-use Rattle.cx_tool.specs.Words.{named, NamesUnit}
+-- What the words ask for.
+use Rattle.std.proofs.Common.{◌≡◌, ℕ, List, Option, Some, None, sym, ap, ◌∙◌}
+use Rattle.cx_tool.specs.Words.{Request, request_of, NamesUnit}
 
-second : Option (List ℕ × List ℕ) → List ℕ
-second None = []
-second (Some names) = names.1
+unit_asked : Request → Option Request → List ℕ
+unit_asked other None = other.unit
+unit_asked other (Some asked) = asked.unit
 
 -- the words name one unit
-pub the_unit : (words : List (List ℕ)) (image unit other : List ℕ) → Some (image, unit) ≡ named words → NamesUnit words other → other ≡ unit
-unfolding second
-the_unit words image unit other e names =
-    let both : Some (names.0, other) ≡ Some (image, unit) = sym names.1 ∙ sym e in
-    ap second both
+pub the_unit : (words : List (List ℕ)) (asked : Request) (other : List ℕ) → Some asked ≡ request_of words → NamesUnit words other → other ≡ asked.unit
+unfolding unit_asked
+the_unit words asked other e names =
+    let both : Some names.0 ≡ Some asked = sym names.1 ∙ sym e in
+    sym names.3 ∙ ap (unit_asked asked) both

@@ -1,6 +1,7 @@
-ghost use Rattle.std.specs.Prelude.{◌≡◌, ◌≢◌, ◌≤◌};
-ghost use Rattle.cx_outside.specs.Fault.{Rose};
-ghost use Rattle.cx_tool.specs.UnitRun.{IsQuiet, IsUnitRun};
+ghost use Rattle.std.specs.Prelude.{◌≡◌, ◌≢◌, ◌≤◌, []};
+ghost use Rattle.cx_code.specs.Output.{written_out};
+ghost use Rattle.cx_machine.specs.Outcome.{object};
+ghost use Rattle.cx_tool.specs.UnitRun.{IsUnitRun};
 
 use cx_code::{BlockMap, Ending, Run};
 use cx_image::Valid;
@@ -24,7 +25,8 @@ impl Source for NoInput {
     }
 }
 
-/// Runs the image of a unit, of at most `limit` steps. It reads nothing, and leaves `out` as it is.
+/// Runs an image with the default violation handler, for at most `limit` steps and without input. `out` takes the bytes of
+/// the events Out after the last step, and `err` the default handler's lines.
 pub fn run_unit<O: Sink, E: Sink>(
     alloc: Global,
     valid: &Valid,
@@ -32,10 +34,10 @@ pub fn run_unit<O: Sink, E: Sink>(
     err: &mut E,
     limit: u32,
 ) -> Run
-    requires { IsQuiet valid.now }
-    ensures outcome { IsUnitRun valid.now limit result (E.taken err.old) (E.taken err.new) (Rose (E.faults err.old) (E.faults err.new)) }
+    requires { valid.now.handler ≡ 0 }
+    ensures outcome { IsUnitRun valid.now limit result (object (O.taken out.old) (O.taken out.new) (O.faults out.old) (O.faults out.new)) (object (E.taken err.old) (E.taken err.new) (E.faults err.old) (E.faults err.new)) }
     ensures started { result.ending ≢ Ending.NotStarted }
-    ensures out { out.new ≡ out.old }
+    ensures silent { written_out result.journal ≡ [] → out.new ≡ out.old }
     ensures later { E.faults err.old ≤ E.faults err.new }
 {
     let mut memory = BlockMap::new(alloc);

@@ -1,13 +1,12 @@
 use Rattle.std.proofs.Common.{arith, ap, length, inl, inr}
-use Rattle.cx_tool.proofs.Sizes.{is_small}
 use Rattle.cx_tool.proofs.Stops.{unit_told, none_told}
 use Rattle.cx_tool.proofs.exec.image_of.Goals as goal
 
 pub unit_of-requires-clause-few : goal.unit_of-requires-clause-few
 unit_of-requires-clause-few c = omega (arith, ap length c.items.ensures)
 
-pub compile-requires-clause-small : goal.compile-requires-clause-small
-compile-requires-clause-small c = is_small c.args.list.now c.in-Some.unit (omega (arith, ap length c.items.ensures)) c.requires.short (unit_told c.args.list.now c.in_ok-unit.field-0 c.in-Some.unit c.in-Some.is c.in_ok-unit.ensures)
+pub lower-requires-clause-small : goal.lower-requires-clause-small
+lower-requires-clause-small c = c.built_units_are_small.ensures c.args.list.now c.in-Some.unit c.requires.short (unit_told c.args.list.now c.in_ok-unit.field-0 c.in-Some.unit c.in-Some.is c.in_ok-unit.ensures) (omega (arith, ap length c.items.ensures))
 
 pub returns-in-None-clause-cause : goal.returns-in-None-clause-cause
 returns-in-None-clause-cause c = elim c.unbuilt-in-None.ensures [ inl e ↦ inr (e, inl (none_told c.args.list.now c.in_ok-unit.field-0 c.in-None.is c.in_ok-unit.ensures)) | inr e ↦ inl e ]

@@ -38,21 +38,21 @@ returns-clause-ran g c =
       ran.0,
       ran.1,
       ran.2,
-      ran.3,
       record {
-        image = ran.4.image;
-        source = ran.4.source;
-        put = ran.4.put;
-        runs = ran.4.runs;
-        lines = last_line (g.E.Sink.taken c.args.err.now) (g.E.Sink.taken c.decide-decided.new.err) (g.E.Sink.taken c.close-answer.new.err) (written ran.4.image c.decide-decided.result.run.journal) _ ran.4.lines last;
+        image = ran.3.image;
+        source = ran.3.source;
+        put = ran.3.put;
+        runs = ran.3.runs;
+        output = ran.3.output;
+        lines = last_line (g.E.Sink.taken c.args.err.now) (g.E.Sink.taken c.decide-decided.new.err) (g.E.Sink.taken c.close-answer.new.err) (written ran.3.image c.decide-decided.result.run.journal) _ ran.3.lines last;
       },
     )
 
 pub returns-clause-closing : goal.returns-clause-closing
 returns-clause-closing g c =
-    λ line.
+    λ line other.
     let same = same_answer _ _ _ c.close-answer.ensures.closed line in
-    let grew = c.decide-decided.ensures.grew (subst HasClosingLine (sym same) line) in
+    let grew = c.decide-decided.ensures.grew (subst HasClosingLine (sym same) line) (λ fault. other (sym same ∙ fault)) in
     (grew.0, Appends-then (g.E.Sink.taken c.args.err.now) (g.E.Sink.taken c.decide-decided.new.err) (g.E.Sink.taken c.close-answer.new.err) grew.0 (closing_text c.close-answer.result c.decide-decided.result.run) grew.1 (c.close-answer.ensures.line line))
 
 pub returns-clause-unbuilt : goal.returns-clause-unbuilt
@@ -73,10 +73,16 @@ returns-clause-unbuilt_comes g c =
 
 pub returns-clause-ran_comes : goal.returns-clause-ran_comes
 returns-clause-ran_comes g c =
-    λ unit folder list tree names told is fine spelled few none held.
-    still_comes c.decide-decided.result.answer c.close-answer.result (answers.Ran) (Rose (g.E.Sink.faults c.decide-decided.new.err) (g.E.Sink.faults c.close-answer.new.err)) c.close-answer.ensures.closed (λ rose. held (Rose-earlier (g.E.Sink.faults c.args.err.now) (g.E.Sink.faults c.decide-decided.new.err) (g.E.Sink.faults c.close-answer.new.err) c.decide-decided.ensures.later rose)) (c.decide-decided.ensures.ran_comes unit folder list tree names told is fine spelled few none (λ rose. held (Rose-later (g.E.Sink.faults c.args.err.now) (g.E.Sink.faults c.decide-decided.new.err) (g.E.Sink.faults c.close-answer.new.err) c.close-answer.ensures.later rose)))
+    λ unit folder list tree names told is fine spelled few none kept held.
+    still_comes c.decide-decided.result.answer c.close-answer.result (answers.Ran) (Rose (g.E.Sink.faults c.decide-decided.new.err) (g.E.Sink.faults c.close-answer.new.err)) c.close-answer.ensures.closed (λ rose. held (Rose-earlier (g.E.Sink.faults c.args.err.now) (g.E.Sink.faults c.decide-decided.new.err) (g.E.Sink.faults c.close-answer.new.err) c.decide-decided.ensures.later rose)) (c.decide-decided.ensures.ran_comes unit folder list tree names told is fine spelled few none kept (λ rose. held (Rose-later (g.E.Sink.faults c.args.err.now) (g.E.Sink.faults c.decide-decided.new.err) (g.E.Sink.faults c.close-answer.new.err) c.close-answer.ensures.later rose)))
 
 pub returns-clause-list_fault_comes : goal.returns-clause-list_fault_comes
 returns-clause-list_fault_comes g c =
     λ unit folder list fault names told is due none held.
     still_comes c.decide-decided.result.answer c.close-answer.result (list_fault_answer unit list fault) (Rose (g.E.Sink.faults c.decide-decided.new.err) (g.E.Sink.faults c.close-answer.new.err)) c.close-answer.ensures.closed (λ rose. held (Rose-earlier (g.E.Sink.faults c.args.err.now) (g.E.Sink.faults c.decide-decided.new.err) (g.E.Sink.faults c.close-answer.new.err) c.decide-decided.ensures.later rose)) (c.decide-decided.ensures.list_fault_comes unit folder list fault names told is due none)
+
+pub returns-clause-write_fault_out : goal.returns-clause-write_fault_out
+returns-clause-write_fault_out g c =
+    λ e.
+    let same = same_answer _ _ _ c.close-answer.ensures.closed (subst HasClosingLine (sym e) tt) in
+    c.decide-decided.ensures.write_fault_out (same ∙ e)
