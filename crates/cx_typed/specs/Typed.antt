@@ -20,7 +20,7 @@ use Rattle.cx_typed.specs.Comment.{comment_of}
 
 -- ---- expressions
 
--- `!` is of type `bool`, the others of the type of their operand, after integral promotion [expr.unary.op]
+-- `!` computes in `bool` and is of that type, the others in that of their operand after integral promotion [expr.unary.op]
 abbrev pub unary_type : UnaryOperator → IntegerType
 unary_type unary.Minus = types.Int
 unary_type unary.Not = types.Bool
@@ -49,17 +49,11 @@ conversion types.Int types.Int = None
 conversion types.Bool types.Bool = None
 conversion from to = Some to
 
--- an operator computes in `int`, but `!` in `bool`
-abbrev pub operand_type : UnaryOperator → IntegerType
-operand_type unary.Minus = types.Int
-operand_type unary.Not = types.Bool
-operand_type unary.Complement = types.Int
-
 abbrev pub typed : Plain → Expr
 typed (number value word) = literal (tree.number (pos value))
 typed (truth b) = literal (tree.number (truth_number b))
 typed (parens e) = typed e
-typed (plain.unary operator e) = tree.unary operator (operand_type operator) (operand None (conversion (type_of e) (operand_type operator)) (typed e))
+typed (plain.unary operator e) = tree.unary operator (unary_type operator) (operand None (conversion (type_of e) (unary_type operator)) (typed e))
 typed (plain.binary operator a b) = tree.binary operator types.Int (operand None (conversion (type_of a) types.Int) (typed a)) (operand None (conversion (type_of b) types.Int) (typed b))
 
 -- an expression where an `int` is wanted
