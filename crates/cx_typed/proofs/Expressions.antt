@@ -12,13 +12,13 @@ use Rattle.cx_core.specs.Event.{ended}
 use Rattle.cx_core.specs.Outcome.{Does, ◌>>=◌, throws, spend, gives, some, undefined}
 use Rattle.cx_core.specs.Program.{Program}
 use Rattle.cx_core.specs.Leaving.{Calls}
-use Rattle.cx_core.specs.Operators.{converted, converted_to, number_given, of_type, operands_fit, operated, unary_operated, unary_operation, binary_operation}
+use Rattle.cx_core.specs.Operators.{converted, converted_to, number_given, of_type, operands_fit, operated, unary_operation, binary_operation}
 use Rattle.cx_core.specs.Meaning.{expr, used}
 use Rattle.cx_front.specs.Literal.{greatest_int}
 use Rattle.cx_front.specs.Plain as plain
 use Rattle.cx_front.specs.Plain.{Plain, truth, parens}
 use Rattle.cx_typed.specs.Typed.{unary_type, binary_type, type_of, conversion, typed, as_int, as_predicate, HasInts}
-use Rattle.cx_typed.proofs.Ranges.{GivesIn, truth_in_range, converted_in_range, unary_in_range, operands_of_int_fit, binary_in_range}
+use Rattle.cx_typed.proofs.Ranges.{GivesIn, truth_in_range, converted_in_range, unary_in_range, operands_in_range_fit, typed_in_range}
 use Rattle.cx_typed.proofs.Keeps.{Keeps, Always, either_keeps, gives_keeps, ends_keep, spend_keeps}
 
 -- a number in the range of the type
@@ -51,7 +51,7 @@ unconverted_keeps type m h = either_keeps (IsIn type) (IsIn type) _ _ throws (ei
 -- ---- operators
 
 number_keeps : (type : IntegerType) (result : Result ℤ Kind) → GivesIn type result → Keeps (IsIn type) (number_given result)
-number_keeps type (Ok n) h = either_keeps (λ m. in_range type m ≡ true) (IsIn type) _ _ throws (gives_keeps (λ m. in_range type m ≡ true) n h) (λ m k. gives_keeps (IsIn type) (number m) k)
+number_keeps type (Ok n) h = given_in type n h
 number_keeps type (Err kind) h = either_keeps (λ m. in_range type m ≡ true) (IsIn type) _ _ throws (ends_keep (λ m. in_range type m ≡ true) (ended (Undefined kind)) h) (λ m k. gives_keeps (IsIn type) (number m) k)
 
 -- a number of the type is taken as it is
@@ -70,14 +70,14 @@ unary_keeps operator m h =
     let type = unary_type operator in
     either_keeps (IsIn type) (IsIn type) m _ throws h
     (λ x is_x. either_keeps Always (IsIn type) spend _ throws spend_keeps
-    (λ _ _. either_keeps Always (IsIn type) _ _ throws (of_type_keeps type x is_x) (λ n _. number_keeps type (unary_number operator type n) (unary_in_range operator n))))
+    (λ _ _. either_keeps Always (IsIn type) _ _ throws (of_type_keeps type x is_x) (λ n _. number_keeps type (unary_number operator type n) (unary_in_range operator type n))))
 
 fitting_keeps : (type : IntegerType) (result : Result ℤ Kind) (fit : Bool) → fit ≡ true → GivesIn type result → Keeps (IsIn type) (if fit then number_given result else undefined Mixed)
 fitting_keeps type result true e h = number_keeps type result h
 fitting_keeps type result false e h = absurd (cc)
 
 operated_keeps : (operator : BinaryOperator) (x y : Value) → IsIn types.Int x → IsIn types.Int y → Keeps (IsIn (binary_type operator)) (operated operator types.Int x y)
-operated_keeps operator (number x) (number y) h k = fitting_keeps (binary_type operator) (binary_number operator types.Int x y) (operands_fit operator types.Int x y) (operands_of_int_fit operator x y h k) (binary_in_range operator x y h k)
+operated_keeps operator (number x) (number y) h k = fitting_keeps (binary_type operator) (binary_number operator types.Int x y) (operands_fit operator types.Int x y) (operands_in_range_fit types.Int x y h k operator) (typed_in_range operator x y h k)
 operated_keeps operator (number x) (address b) h k = absurd k
 operated_keeps operator (number x) null h k = absurd k
 operated_keeps operator (number x) (violation b) h k = absurd k
@@ -98,7 +98,7 @@ module _ (program : Program) (calls : Calls) where
   pub expr_keeps : (e : Plain) → HasInts e → Keeps (IsIn (type_of e)) (expr program calls (typed e))
   unfolding expr
   expr_keeps (plain.number n word) h = either_keeps Always (IsIn types.Int) spend _ throws spend_keeps (λ _ _. gives_keeps (IsIn types.Int) (number (pos n)) (literal_is_int n h))
-  expr_keeps (truth b) h = either_keeps Always (IsIn types.Bool) spend _ throws spend_keeps (λ _ _. gives_keeps (IsIn types.Bool) (number (truth_number b)) (truth_in_range b))
+  expr_keeps (truth b) h = either_keeps Always (IsIn types.Bool) spend _ throws spend_keeps (λ _ _. gives_keeps (IsIn types.Bool) (number (truth_number b)) (truth_in_range types.Bool b))
   expr_keeps (parens e) h = expr_keeps e h
   expr_keeps (plain.unary operator e) h = unary_keeps operator _ (converted_keeps (type_of e) (unary_type operator) _ (expr_keeps e h))
   expr_keeps (plain.binary operator a b) h = binary_keeps operator _ _ (converted_keeps (type_of a) types.Int _ (expr_keeps a h.0)) (converted_keeps (type_of b) types.Int _ (expr_keeps b h.1))
