@@ -1,4 +1,4 @@
--- Which unit a tree of the grammar is, by cases on the tree: numbers, parentheses and `<`, assertion statements and one `return` in `main`; a part of [expr], [stmt] and [basic.start.main].
+-- Which unit a tree of the grammar is, by cases on the tree: literals, parentheses and the operators that compute numbers, assertion statements and one `return` in `main`; a part of [expr], [stmt] and [basic.start.main].
 use Rattle.std.specs.Prelude.{◌≡◌, ◌⊎◌, ℕ, ◌<◌, ◌&&◌, Bool, true, false, if◌then◌else◌, List, [], ◌∷◌, ◌++◌, Option, Some, None, codes, length, slice_get, unwrap_or}
 use Rattle.std.specs.Option.{option_map}
 use Rattle.std.specs.Str.{bytes_eq}
@@ -6,8 +6,13 @@ use Rattle.cx_syntax.specs.declared.mark.Mark.{Mark}
 use Rattle.cx_syntax.specs.declared.mark.Mark.TheVariants as M
 use Rattle.cx_syntax.specs.declared.mark.Punct.{Punct}
 use Rattle.cx_syntax.specs.declared.mark.Punct.TheVariants as P
+use Rattle.cx_syntax.specs.declared.mark.Word.{Word}
 use Rattle.cx_syntax.specs.declared.mark.Word.TheVariants as W
-use Rattle.cx_syntax.specs.Tree.{Base, Item, Params, Specs, Stars, Stmt, Stmts, Suffix, TypeTree, UnitTree, asserts, binary, block, defined, function, leaf, more_items, more_stmts, no_items, no_params, no_specs, no_stars, no_stmts, paren, returns, suffix, type_tree, word_base}
+use Rattle.cx_core.specs.declared.number.BinaryOperator.{BinaryOperator}
+use Rattle.cx_core.specs.declared.number.BinaryOperator.TheVariants as operators
+use Rattle.cx_core.specs.declared.number.UnaryOperator.{UnaryOperator}
+use Rattle.cx_core.specs.declared.number.UnaryOperator.TheVariants as unary
+use Rattle.cx_syntax.specs.Tree.{Base, Item, Params, Specs, Stars, Stmt, Stmts, Suffix, TypeTree, UnitTree, asserts, block, defined, function, leaf, more_items, more_stmts, no_items, no_params, no_specs, no_stars, no_stmts, paren, returns, suffix, type_tree, word_base}
 use Rattle.cx_syntax.specs.Tree as tree
 use Rattle.cx_syntax.specs.Place.{IsTree}
 use Rattle.cx_includes.specs.declared.assembled.Assembled.{Assembled}
@@ -17,7 +22,8 @@ use Rattle.cx_includes.specs.Assembled.{bytes_of_placed}
 use Rattle.cx_faults.specs.Faults.{marks_of}
 use Rattle.cx_front.specs.declared.source.SourceUnit.{SourceUnit}
 use Rattle.cx_front.specs.Literal.{int_value}
-use Rattle.cx_front.specs.Plain.{Plain, PlainCheck, PlainUnit, number, parens, less, plain_unit}
+use Rattle.cx_front.specs.Plain.{Plain, PlainCheck, PlainUnit, number, truth, parens, plain_unit}
+use Rattle.cx_front.specs.Plain as plain
 
 -- where both are there
 abbrev pub both : {A B C : Type 0} → (A → B → C) → Option A → Option B → Option C
@@ -37,18 +43,52 @@ name_of_file list file = unwrap_or (option_map (λ (source : SourceFile). source
 abbrev pub number_of : List ℕ → Option Plain
 number_of word = option_map (λ (value : ℕ). number value word) (int_value word)
 
+abbrev pub truth_of : Word → Option Plain
+truth_of W.True = Some (truth true)
+truth_of W.False = Some (truth false)
+truth_of word = None
+
 abbrev pub leaf_of : List ℕ → Mark → Option Plain
 leaf_of word M.Number = number_of word
+leaf_of word (M.Word k) = truth_of k
 leaf_of word mark = None
 
-abbrev pub operator_of : Punct → Option Plain → Option Plain → Option Plain
-operator_of P.Less l r = both less l r
-operator_of punct l r = None
+-- the operators with one operand that are built
+abbrev pub unary_operator : Punct → Option UnaryOperator
+unary_operator P.Minus = Some unary.Minus
+unary_operator P.Not = Some unary.Not
+unary_operator P.Tilde = Some unary.Complement
+unary_operator punct = None
+
+-- those with two
+abbrev pub binary_operator : Punct → Option BinaryOperator
+binary_operator P.Star = Some operators.Multiply
+binary_operator P.Slash = Some operators.Divide
+binary_operator P.Percent = Some operators.Remainder
+binary_operator P.Plus = Some operators.Add
+binary_operator P.Minus = Some operators.Subtract
+binary_operator P.ShiftLeft = Some operators.ShiftLeft
+binary_operator P.ShiftRight = Some operators.ShiftRight
+binary_operator P.Less = Some operators.Less
+binary_operator P.Greater = Some operators.Greater
+binary_operator P.LessEqual = Some operators.LessEqual
+binary_operator P.GreaterEqual = Some operators.GreaterEqual
+binary_operator P.Equal = Some operators.Equal
+binary_operator P.NotEqual = Some operators.NotEqual
+binary_operator P.And = Some operators.BitAnd
+binary_operator P.Xor = Some operators.BitXor
+binary_operator P.Or = Some operators.BitOr
+binary_operator punct = None
+
+abbrev pub with_operands : Option BinaryOperator → Option Plain → Option Plain → Option Plain
+with_operands None l r = None
+with_operands (Some operator) l r = both (plain.binary operator) l r
 
 abbrev pub expr_in : Assembled → tree.Expr → Option Plain
 expr_in list (leaf i m) = leaf_of (word_at list i) m
 expr_in list (paren i e j) = option_map parens (expr_in list e)
-expr_in list (binary i l p j r) = operator_of p (expr_in list l) (expr_in list r)
+expr_in list (tree.unary i p e) = both plain.unary (unary_operator p) (expr_in list e)
+expr_in list (tree.binary i l p j r) = with_operands (binary_operator p) (expr_in list l) (expr_in list r)
 expr_in list other = None
 
 -- ---- statements

@@ -1,15 +1,19 @@
 -- The units that are built as plain trees, and those that the units of the program stand for; this project's own.
-use Rattle.std.specs.Prelude.{ℕ, List, map}
+use Rattle.std.specs.Prelude.{ℕ, Bool, List, map}
+use Rattle.cx_core.specs.declared.number.BinaryOperator.{BinaryOperator}
+use Rattle.cx_core.specs.declared.number.UnaryOperator.{UnaryOperator}
 use Rattle.cx_front.specs.declared.source.Expr.{Expr}
-use Rattle.cx_front.specs.declared.source.Expr.TheVariants.{Number, Paren', Less'}
+use Rattle.cx_front.specs.declared.source.Expr.TheVariants.{Number, Truth, Paren', Unary', Binary'}
 use Rattle.cx_front.specs.declared.source.Check.{Check}
 use Rattle.cx_front.specs.declared.source.SourceUnit.{SourceUnit}
 
 pub data Plain : Type 0 where
   -- its value and its bytes
   number : (value : ℕ) → (word : List ℕ) → Plain
+  truth : Bool → Plain
   parens : Plain → Plain
-  less : Plain → Plain → Plain
+  unary : UnaryOperator → Plain → Plain
+  binary : BinaryOperator → Plain → Plain → Plain
 
 pub record PlainCheck : Type 0 where
   pub predicate : Plain
@@ -23,8 +27,10 @@ pub record PlainUnit : Type 0 where
 
 abbrev pub plain : Expr → Plain
 plain (Number value word) = number value word
+plain (Truth b) = truth b
 plain (Paren' p e) = parens (plain e)
-plain (Less' p a q b) = less (plain a) (plain b)
+plain (Unary' operator p e) = unary operator (plain e)
+plain (Binary' operator p a q b) = binary operator (plain a) (plain b)
 
 abbrev pub plain_check : Check → PlainCheck
 plain_check check = record { predicate = plain check.predicate; file = check.file; line = check.line; column = check.column }

@@ -1,40 +1,65 @@
--- The typed program of a unit that is built, by cases on the unit: its types and conversions after [lex.icon], [expr.rel], [conv.integral] and [conv.bool] of the C++ draft, its assertions after [basic.contract.eval] of P2900R14; the names of assertions are this project's own.
+-- The typed program of a unit that is built, by cases on the unit: its types and conversions after [lex.icon], [lex.bool], [expr.unary.op], [expr.mul] to [expr.or], [conv.integral] and [conv.bool] of the C++ draft, its assertions after [basic.contract.eval] of P2900R14; the names of assertions are this project's own.
 use Rattle.std.specs.Prelude.{ℕ, ◌+◌, ◌≤◌, pos, false, List, [], ◌∷◌, ◌++◌, Option, Some, None, codes}
 use Rattle.std.specs.List.{All}
 use Rattle.std.specs.Fmt.{decimal}
 use Rattle.cx_core.specs.declared.number.IntegerType.{IntegerType}
 use Rattle.cx_core.specs.declared.number.IntegerType.TheVariants as types
+use Rattle.cx_core.specs.declared.number.BinaryOperator.{BinaryOperator}
 use Rattle.cx_core.specs.declared.number.BinaryOperator.TheVariants as operators
+use Rattle.cx_core.specs.declared.number.UnaryOperator.{UnaryOperator}
+use Rattle.cx_core.specs.declared.number.UnaryOperator.TheVariants as unary
+use Rattle.cx_core.specs.Number.{truth_number}
 use Rattle.cx_core.specs.Words.{Assert, Semantic, Ignore}
 use Rattle.cx_core.specs.Tree as tree
-use Rattle.cx_core.specs.Tree.{Expr, literal, binary, Operand, operand, Assertion, Check, Stmts, contract_assert, return_value, done, next}
-use Rattle.cx_core.specs.Program.{Program, Function, Checks, function, exit_status}
+use Rattle.cx_core.specs.Tree.{Expr, literal, Operand, operand, Assertion, Check, Stmts, contract_assert, return_value, done, next}
+use Rattle.cx_core.specs.Program.{Program, Function, function, exit_status}
+use Rattle.cx_emit.specs.Units.{no_checks}
 use Rattle.cx_front.specs.Literal.{greatest_int}
-use Rattle.cx_front.specs.Plain.{Plain, PlainCheck, PlainUnit, number, parens, less}
+use Rattle.cx_front.specs.Plain.{Plain, PlainCheck, PlainUnit, number, truth, parens}
+use Rattle.cx_front.specs.Plain as plain
 use Rattle.cx_typed.specs.Comment.{comment_of}
 
 -- ---- expressions
 
--- a comparison is of type `bool` [expr.rel]
+-- `!` computes in `bool` and is of that type, the others in that of their operand after integral promotion [expr.unary.op]
+abbrev pub unary_type : UnaryOperator → IntegerType
+unary_type unary.Minus = types.Int
+unary_type unary.Not = types.Bool
+unary_type unary.Complement = types.Int
+
+-- a comparison is of type `bool` [expr.rel], [expr.eq], the others of that of their operands, after the usual arithmetic conversions
+abbrev pub binary_type : BinaryOperator → IntegerType
+binary_type operators.Less = types.Bool
+binary_type operators.Greater = types.Bool
+binary_type operators.LessEqual = types.Bool
+binary_type operators.GreaterEqual = types.Bool
+binary_type operators.Equal = types.Bool
+binary_type operators.NotEqual = types.Bool
+binary_type operator = types.Int
+
 abbrev pub type_of : Plain → IntegerType
 type_of (number value word) = types.Int
+type_of (truth b) = types.Bool
 type_of (parens e) = type_of e
-type_of (less a b) = types.Bool
+type_of (plain.unary operator e) = unary_type operator
+type_of (plain.binary operator a b) = binary_type operator
 
--- to `int`, where a value isn't one already ([conv.prom], [conv.integral])
-abbrev pub conversion_to_int : IntegerType → Option IntegerType
-conversion_to_int types.Int = None
-conversion_to_int type = Some types.Int
+-- to a type, where a value isn't of it already ([conv.prom], [conv.integral], [conv.bool])
+abbrev pub conversion : (from to : IntegerType) → Option IntegerType
+conversion types.Int types.Int = None
+conversion types.Bool types.Bool = None
+conversion from to = Some to
 
--- the operands of a comparison are compared in `int` [expr.arith.conv]
 abbrev pub typed : Plain → Expr
 typed (number value word) = literal (tree.number (pos value))
+typed (truth b) = literal (tree.number (truth_number b))
 typed (parens e) = typed e
-typed (less a b) = binary operators.Less types.Int (operand None (conversion_to_int (type_of a)) (typed a)) (operand None (conversion_to_int (type_of b)) (typed b))
+typed (plain.unary operator e) = tree.unary operator (unary_type operator) (operand None (conversion (type_of e) (unary_type operator)) (typed e))
+typed (plain.binary operator a b) = tree.binary operator types.Int (operand None (conversion (type_of a) types.Int) (typed a)) (operand None (conversion (type_of b) types.Int) (typed b))
 
 -- an expression where an `int` is wanted
 abbrev pub as_int : Plain → Operand
-as_int e = operand None (conversion_to_int (type_of e)) (typed e)
+as_int e = operand None (conversion (type_of e) types.Int) (typed e)
 
 -- an expression whose truth is asked: the conversion to `bool` [conv.bool] is the assertion's
 abbrev pub as_predicate : Plain → Operand
@@ -71,9 +96,6 @@ statements_from semantic ordinal (check ∷ checks) value = next (contract_asser
 abbrev pub body_of : Semantic → PlainUnit → Stmts
 body_of semantic unit = statements_from semantic 1 unit.checks unit.value
 
-abbrev pub no_checks : Checks
-no_checks = record { preconditions = []; postconditions = [] }
-
 abbrev pub main_of : Stmts → Function
 main_of body = record { definer = 0; noexcept = false; result = exit_status; checks = no_checks; body = function body }
 
@@ -86,8 +108,10 @@ program_of semantic unit = record { functions = main_of (body_of semantic unit) 
 -- each number is one of `int` [lex.icon]
 abbrev pub HasInts : Plain → Type 0
 HasInts (number value word) = value ≤ greatest_int
+HasInts (truth b) = Unit {0}
 HasInts (parens e) = HasInts e
-HasInts (less a b) = HasInts a × HasInts b
+HasInts (plain.unary operator e) = HasInts e
+HasInts (plain.binary operator a b) = HasInts a × HasInts b
 
 abbrev pub UnitHasInts : PlainUnit → Type 0
 UnitHasInts unit = All (λ (check : PlainCheck). HasInts check.predicate) unit.checks × HasInts unit.value
