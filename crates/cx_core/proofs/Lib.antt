@@ -4,7 +4,7 @@ pub mod EverywhereMeaning
 pub mod Invariant
 mod BeginsTold
 mod InputRead
-mod Numbered
+pub mod Numbered
 mod LargerBudget
 mod Budget
 mod RowsTaken

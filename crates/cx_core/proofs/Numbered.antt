@@ -12,11 +12,11 @@ use Rattle.cx_core.proofs.Invariant.{IsInvariant, Leaves, Keeps, invariant_is_cl
 
 -- ---- a new object
 
-free_above : (next : ℕ) (store : Store) (n : ℕ) → next < suc n → IsNumbered next store → IsFree n store
+pub free_above : (next : ℕ) (store : Store) (n : ℕ) → next < suc n → IsNumbered next store → IsFree n store
 free_above next [] n h k = tt {0}
 free_above next (o ∷ store) n h k = (λ e. absurd (omega (arith, k.0, h, e)), free_above next store n h k.1.1)
 
-numbered_above : (next : ℕ) (store : Store) → IsNumbered next store → IsNumbered (suc next) store
+pub numbered_above : (next : ℕ) (store : Store) → IsNumbered next store → IsNumbered (suc next) store
 numbered_above next [] h = tt {0}
 numbered_above next (o ∷ store) h = (omega (arith, h.0), (h.1.0, numbered_above next store h.1.1))
 
@@ -34,7 +34,7 @@ free_without : (m : ℕ) (store : Store) (n : ℕ) → IsFree m store → IsFree
 free_without m [] n h = tt {0}
 free_without m (o ∷ store) n h = if_free (nat_eq o.number n) m _ _ h.1 (h.0, free_without m store n h.1)
 
-numbered_without : (next : ℕ) (store : Store) (n : ℕ) → IsNumbered next store → IsNumbered next (without store n)
+pub numbered_without : (next : ℕ) (store : Store) (n : ℕ) → IsNumbered next store → IsNumbered next (without store n)
 numbered_without next [] n h = tt {0}
 numbered_without next (o ∷ store) n h =
     if_numbered (nat_eq o.number n) next _ _ h.1.1 (h.0, (free_without o.number store n h.1.0, numbered_without next store n h.1.1))
@@ -45,7 +45,7 @@ free_with : (m : ℕ) (store : Store) (n : ℕ) (leaves : List Leaf) → IsFree 
 free_with m [] n leaves h = tt {0}
 free_with m (o ∷ store) n leaves h = if_free (nat_eq o.number n) m _ _ (h.0, h.1) (h.0, free_with m store n leaves h.1)
 
-numbered_with : (next : ℕ) (store : Store) (n : ℕ) (leaves : List Leaf) → IsNumbered next store → IsNumbered next (with_leaves store n leaves)
+pub numbered_with : (next : ℕ) (store : Store) (n : ℕ) (leaves : List Leaf) → IsNumbered next store → IsNumbered next (with_leaves store n leaves)
 numbered_with next [] n leaves h = tt {0}
 numbered_with next (o ∷ store) n leaves h =
     if_numbered (nat_eq o.number n) next _ _ (h.0, (h.1.0, h.1.1)) (h.0, (free_with o.number store n leaves h.1.0, numbered_with next store n leaves h.1.1))
@@ -96,7 +96,7 @@ free_below : (m n : ℕ) (globals : List Constant) → m < n → IsFree m (globa
 free_below m n [] h = tt {0}
 free_below m n (g ∷ globals) h = (λ e. absurd (omega (arith, e, h)), free_below m (suc n) globals (omega (arith, h)))
 
-globals_numbered : (next n : ℕ) (globals : List Constant) → length globals + n ≡ next → IsNumbered next (globals_from n globals)
+pub globals_numbered : (next n : ℕ) (globals : List Constant) → length globals + n ≡ next → IsNumbered next (globals_from n globals)
 globals_numbered next n [] e = tt {0}
 globals_numbered next n (g ∷ globals) e =
     (omega (arith, e), (free_below n (suc n) globals (omega arith), globals_numbered next (suc n) globals (omega (arith, e))))

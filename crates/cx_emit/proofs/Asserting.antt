@@ -66,7 +66,7 @@ module _ (image : Image) (function : ℕ) where
 
   -- with other events behind
   with_trace : (s : source.State) (m : State) (trace : List Event) → Agrees function s m → Agrees function (record s { trace = trace }) m
-  with_trace s m trace a = record { in_function = a.in_function; same_store = a.same_store; same_next = a.same_next; same_input = a.same_input }
+  with_trace s m trace a = record { in_function = a.in_function; same_store = a.same_store; same_next = a.same_next; same_input = a.same_input; same_names = a.same_names }
 
   -- the machine goes on at a place where it is, or by a jump
   pub goes_on : (from to : ℕ) → GoesOn image function from to → (n : ℕ) (operands : List Value) (s : source.State) (m : State) → Agrees function s m → s.begins ≡ begins_ahead (image_step image) n (running_at m from operands)
@@ -104,8 +104,8 @@ module _ (image : Image) (function : ℕ) where
         step_to s (record s { trace = handler (check.violation_of a mode semantic) ∷ s.trace }) m (record m { violations = m.violations ++ violation_made ∷ [] }) from (from + 1) to operands operands (Some (handler (check.violation_of a mode semantic))) h.next
         (at s m from operands (does.Violate index mode semantic) agrees h.here ∙ ap (λ x. progress image x) (choose image.handler _ _ default.in_image) ∙ ap (λ v. goes (running_at (record m { violations = m.violations ++ violation_made ∷ [] }) (from + 1) operands) (Some (handler v))) (is.same_violation mode semantic))
         refl refl refl
-        (record { in_function = agrees.in_function; same_store = agrees.same_store; same_next = agrees.same_next; same_input = agrees.same_input }) s
-        (record { same_frame = refl; same_living = refl; same_temporaries = refl; same_held = refl; same_slots = refl; same_pending = refl; same_below = refl; same_exceptions = refl })
+        (record { in_function = agrees.in_function; same_store = agrees.same_store; same_next = agrees.same_next; same_input = agrees.same_input; same_names = agrees.same_names }) s
+        (record { same_frame = refl; same_store = refl; same_number = refl; same_living = refl; same_temporaries = refl; same_held = refl; same_slots = refl; same_pending = refl; same_below = refl; same_exceptions = refl })
       where
         violation_made : Violated
         violation_made = record { assertion = index; mode = mode; semantic = semantic }
@@ -168,11 +168,11 @@ module _ (image : Image) (function : ℕ) where
     verdict_step true from to h operands s m agrees =
         step_to s (record s { trace = verdict Holds ∷ s.trace }) m m from (from + 1) to (values.Number (pos 1) ∷ operands) (values.Number (pos 1) ∷ operands) (Some (verdict Holds)) h.next
         (at s m from (values.Number (pos 1) ∷ operands) (does.Verdict index) agrees h.here) refl refl refl (with_trace s m (verdict Holds ∷ s.trace) agrees) s
-        (record { same_frame = refl; same_living = refl; same_temporaries = refl; same_held = refl; same_slots = refl; same_pending = refl; same_below = refl; same_exceptions = refl })
+        (record { same_frame = refl; same_store = refl; same_number = refl; same_living = refl; same_temporaries = refl; same_held = refl; same_slots = refl; same_pending = refl; same_below = refl; same_exceptions = refl })
     verdict_step false from to h operands s m agrees =
         step_to s (record s { trace = verdict False ∷ s.trace }) m m from (from + 1) to (values.Number (pos 0) ∷ operands) (values.Number (pos 0) ∷ operands) (Some (verdict False)) h.next
         (at s m from (values.Number (pos 0) ∷ operands) (does.Verdict index) agrees h.here) refl refl refl (with_trace s m (verdict False ∷ s.trace) agrees) s
-        (record { same_frame = refl; same_living = refl; same_temporaries = refl; same_held = refl; same_slots = refl; same_pending = refl; same_below = refl; same_exceptions = refl })
+        (record { same_frame = refl; same_store = refl; same_number = refl; same_living = refl; same_temporaries = refl; same_held = refl; same_slots = refl; same_pending = refl; same_below = refl; same_exceptions = refl })
 
     abbrev Effect : ℕ → List Value → source.State → State → Nothing → State → source.State → Type 0
     Effect to operands s m _ d t = IsAt function to operands s m d t

@@ -73,9 +73,11 @@ module _ (image : Image) (function : ℕ) (program : Program) (calls : Calls) wh
             value = g.value;
             is_there = g.is_there;
             same_value = g.same_value;
-            agrees = record { in_function = (g.agrees).in_function; same_store = (g.agrees).same_store; same_next = (g.agrees).same_next; same_input = (g.agrees).same_input };
+            agrees = record { in_function = (g.agrees).in_function; same_store = (g.agrees).same_store; same_next = (g.agrees).same_next; same_input = (g.agrees).same_input; same_names = (g.agrees).same_names };
             kept = record {
               same_frame = (g.kept).same_frame;
+              same_store = (g.kept).same_store;
+              same_number = (g.kept).same_number;
               same_living = (g.kept).same_living;
               same_temporaries = refl;
               same_held = (g.kept).same_held;
@@ -88,7 +90,7 @@ module _ (image : Image) (function : ℕ) (program : Program) (calls : Calls) wh
 
   pub full_follows : (part : Does store.Value) (from to : ℕ) → Valued image function Never of_operand part from to → Valued image function Never of_operand (full_expression program calls part) from to
   full_follows part from to follows n operands s m a told =
-      full_follows_at part from to n operands s m (follows n operands (record s { temporaries = [] }) m (record { in_function = a.in_function; same_store = a.same_store; same_next = a.same_next; same_input = a.same_input }) told)
+      full_follows_at part from to n operands s m (follows n operands (record s { temporaries = [] }) m (record { in_function = a.in_function; same_store = a.same_store; same_next = a.same_next; same_input = a.same_input; same_names = a.same_names }) told)
 
   -- ---- a value that is converted to `bool`
 
@@ -180,8 +182,8 @@ module _ (image : Image) (function : ℕ) (program : Program) (calls : Calls) wh
     begin_steps from to h operands s m a rest e budget =
         subst (λ r. Steps (image_step image) (record s { budget = budget }) (running_at m from operands) (Effect to operands s m) (Never s m) r) (ap (λ begins. begin_of begins (record s { budget = budget })) (sym e))
         (step_to image function (record s { budget = budget }) (record s { budget = budget; begins = rest; trace = begin the_evaluation ∷ s.trace }) m m from (from + 1) to operands operands (Some (begin the_evaluation)) h.next
-        (begins_so from to h operands s m a) refl e refl (record { in_function = a.in_function; same_store = a.same_store; same_next = a.same_next; same_input = a.same_input }) s
-        (record { same_frame = refl; same_living = refl; same_temporaries = refl; same_held = refl; same_slots = refl; same_pending = refl; same_below = refl; same_exceptions = refl }))
+        (begins_so from to h operands s m a) refl e refl (record { in_function = a.in_function; same_store = a.same_store; same_next = a.same_next; same_input = a.same_input; same_names = a.same_names }) s
+        (record { same_frame = refl; same_store = refl; same_number = refl; same_living = refl; same_temporaries = refl; same_held = refl; same_slots = refl; same_pending = refl; same_below = refl; same_exceptions = refl }))
 
     -- ---- the row of the one assertion
 

@@ -1,34 +1,37 @@
 -- Where code stands for an expression the machine follows it: by recursion on the tree.
-use Rattle.std.proofs.Common.{◌≡◌, ℕ, ◌+◌, pos, List, ◌∷◌, Option, inl, inr, refl, sym, ap, ◌∙◌, subst, arith}
+use Rattle.std.proofs.Common.{◌≡◌, ℕ, ◌+◌, pos, List, [], ◌∷◌, Option, Some, None, inl, inr, refl, sym, ap, ◌∙◌, subst, arith}
 use Rattle.cx_code.specs.declared.image.Image.{Image}
 use Rattle.cx_code.specs.declared.operation.Operation.TheVariants as does
 use Rattle.cx_code.specs.declared.run.Value.{Value}
 use Rattle.cx_code.specs.declared.run.Value.TheVariants as values
 use Rattle.cx_code.specs.State.{State}
+use Rattle.cx_code.specs.Act.{next, on_slot}
 use Rattle.cx_core.specs.declared.number.IntegerType.{IntegerType}
 use Rattle.cx_core.specs.declared.number.BinaryOperator.{BinaryOperator}
 use Rattle.cx_core.specs.declared.number.UnaryOperator.{UnaryOperator}
-use Rattle.cx_core.specs.Tree.{ObjectType, Constant, Expr, literal, global, unary, binary, Operand, operand}
+use Rattle.cx_core.specs.Tree.{ObjectType, Constant, Expr, literal, variable, global, unary, binary, putchar, Operand, operand}
 use Rattle.cx_core.specs.Tree as tree
 use Rattle.cx_core.specs.Program.{Program}
 use Rattle.cx_core.specs.Store as store
 use Rattle.cx_core.specs.Store.{number, address, null, violation}
 use Rattle.cx_core.specs.Outcome as source
-use Rattle.cx_core.specs.Outcome.{on, over, Does, either, gives, throws, spend, ends, some, undefined}
+use Rattle.cx_core.specs.Outcome.{on, over, Does, either, gives, throws, spend, ends, some, undefined, current_frame}
 use Rattle.cx_core.specs.Leaving.{Calls}
-use Rattle.cx_core.specs.Operators.{constant, operated, unary_operated, read_as, converted_to}
+use Rattle.cx_core.specs.Operators.{constant, denoted, named, operated, unary_operated, number_of, read_as, converted_to}
+use Rattle.cx_core.specs.Library.{byte_of, write_bytes, putchar_call}
 use Rattle.cx_core.specs.Meaning.{expr, used, object_place}
 use Rattle.cx_simulation.specs.Machine.{begins_ahead}
-use Rattle.cx_simulation.specs.ImageMachine.{image_step}
+use Rattle.cx_simulation.specs.ImageMachine.{progress, image_step}
 use Rattle.cx_simulation.specs.Parts.{Account, IsSum, Follows}
 use Rattle.cx_simulation.proofs.Parts.{follows_then, follows_less, follows_unit}
 use Rattle.cx_emit.specs.Values.{IsValue}
-use Rattle.cx_emit.specs.Configuration.{running_at, Has, Agrees, AreKept, Gives}
+use Rattle.cx_emit.specs.Configuration.{running_at, operation_at, Has, Agrees, AreKept, Gives}
 use Rattle.cx_emit.specs.Operations.{unary_operation, binary_operation}
 use Rattle.cx_emit.specs.Stands.{HasSome, StandsConstant, StandsRead, StandsConversion, StandsExpr, StandsOperand}
 use Rattle.cx_emit.specs.Laws.{of_expression, of_operand}
 use Rattle.cx_emit.proofs.Places.{gives_on, has_some, at_place, puts, PutsValue, Valued}
 use Rattle.cx_emit.proofs.Operators.{unary_steps, binary_steps}
+use Rattle.cx_emit.proofs.Output.{writes}
 use Rattle.cx_emit.proofs.Operands.{read_follows, conversion_follows}
 
 abbrev pub account : ℕ → ℕ → ℕ → Account
@@ -78,6 +81,19 @@ module _ (image : Image) (function : ℕ) (Fly : source.State → State → sour
   global_steps index s m budget from to operands a h =
       puts image function Fly s m budget from to operands operands (object_place (index + 1)) (values.Address (index + 1) 0) a refl h.next (at_place image function Fly s m from to operands (does.Global index) a h)
 
+  -- what a name denotes stands in its slot
+  variable_steps : (slot : ℕ) (s : source.State) (m : State) (budget from to : ℕ) (operands : List Value) → Agrees function s m → Has image function from (does.Get slot) to
+      → PutsValue image function Fly s m budget from to operands operands (named slot (record s { budget = budget }))
+  unfolding either gives ends throws current_frame
+  variable_steps slot s m budget from to operands a h = by_name (denoted s.frame.variables slot) refl
+    where
+      by_name : (r : Option store.Value) → denoted s.frame.variables slot ≡ r → PutsValue image function Fly s m budget from to operands operands (some r (record s { budget = budget }))
+      by_name None e = λ other. absurd (other refl)
+      by_name (Some v) e =
+          let w = a.same_names slot v e in
+          puts image function Fly s m budget from to operands operands v w.0 a w.2 h.next
+          (at_place image function Fly s m from to operands (does.Get slot) a h ∙ ap (λ r. progress image (on_slot r (λ value. next (running_at m from operands) (value ∷ operands)))) w.1)
+
   -- ---- an instruction behind its operands, which stands for a unit
 
   unit_follows : (part : Does store.Value) (from to : ℕ) (before operands : List Value) (n : ℕ) (s : source.State) (m : State) → s.begins ≡ begins_ahead (image_step image) n (running_at m from before)
@@ -118,6 +134,13 @@ module _ (image : Image) (function : ℕ) (Fly : source.State → State → sour
       (λ y w same_y k s m a told. unit_follows (operated operator type x y) q to (w ∷ v ∷ operands) operands k s m told
       (λ budget. binary_steps image function Fly o.0 s m budget q to operands a o.2 operator type x y v w same_x same_y o.1))) n
 
+  putchar_follows : (part : Does store.Value) (from p q to : ℕ) → operation_at image function p ≡ Some (does.Jump q) → Has image function q does.Out to → Valued image function Fly of_operand part from p
+      → Valued image function Fly of_expression (putchar_call part) from to
+  putchar_follows part from p q to jumps outs follows n operands =
+      value_then of_operand (account 31 0 1) of_expression part (λ v. either (some (number_of v)) (λ n. either spend (λ _. either (write_bytes (byte_of n ∷ [])) (λ _. gives (number (pos (byte_of n)))) throws) throws) throws) from p (λ s m. Gives function to operands s m)
+      (record { goes_on = omega arith; left_first = omega arith; left_second = omega arith; in_hand = omega arith })
+      (gives_on function to operands) follows operands (writes image function Fly p q to jumps outs operands) n
+
   converted_follows : (read : Option ObjectType) (conversion : Option IntegerType) (part : Does store.Value) (from p q to : ℕ) → StandsRead image function read p q → StandsConversion image function conversion q to
       → Valued image function Fly of_expression part from p
       → Valued image function Fly of_operand (either (either part (read_as read) throws) (converted_to conversion) throws) from to
@@ -136,10 +159,12 @@ module _ (image : Image) (function : ℕ) (Fly : source.State → State → sour
 
       pub expr_follows : (e : Expr) (from to : ℕ) → StandsExpr image function e from to → Valued image function Fly of_expression (expr program calls e) from to
       expr_follows (literal c) from to st = alone_follows (gives (constant c)) from to (λ s m operands a budget. literal_steps c s m budget from to operands a st)
+      expr_follows (variable slot) from to st = alone_follows (named slot) from to (λ s m operands a budget. variable_steps slot s m budget from to operands a st)
       expr_follows (global index) from to st = alone_follows (gives (object_place (index + 1))) from to (λ s m operands a budget. global_steps index s m budget from to operands a st)
       expr_follows (unary operator type a) from to st = unary_follows operator type (used program calls a) from st.0 to st.2 (used_follows a from st.0 st.1)
       expr_follows (binary operator type a b) from to st =
           binary_follows operator type (used program calls a) (used program calls b) from st.0 st.1 to st.4 (used_follows a from st.0 st.2) (used_follows b st.0 st.1 st.3)
+      expr_follows (putchar a) from to st = putchar_follows (used program calls a) from st.0 st.1 to st.3 st.4 (used_follows a from st.0 st.2)
       expr_follows e from to st = absurd st
 
       pub used_follows : (a : Operand) (from to : ℕ) → StandsOperand image function a from to → Valued image function Fly of_operand (used program calls a) from to

@@ -4,6 +4,7 @@ use Rattle.std.specs.Prelude.{Result}
 use Rattle.cx_code.specs.declared.code.Region.{Region}
 use Rattle.cx_code.specs.declared.image.Image.{Image}
 use Rattle.cx_code.specs.declared.operation.Operation.{Operation}
+use Rattle.cx_code.specs.declared.operation.Operation.TheVariants as does
 use Rattle.cx_code.specs.declared.run.Value.{Value}
 use Rattle.cx_code.specs.declared.run.Value.TheVariants as values
 use Rattle.cx_code.specs.Arithmetic.{Computed, Gives as Computes, Fails}
@@ -24,12 +25,14 @@ use Rattle.cx_emit.specs.Stands.{HasSome}
 use Rattle.cx_emit.proofs.Numbers.{as_result}
 
 pub all_kept : (s : source.State) (m : State) → AreKept s m s m
-all_kept s m = record { same_frame = refl; same_living = refl; same_temporaries = refl; same_held = refl; same_slots = refl; same_pending = refl; same_below = refl; same_exceptions = refl }
+all_kept s m = record { same_frame = refl; same_store = refl; same_number = refl; same_living = refl; same_temporaries = refl; same_held = refl; same_slots = refl; same_pending = refl; same_below = refl; same_exceptions = refl }
 
 pub kept_on : (s t u : source.State) (m d e : State) → AreKept s m t d → AreKept t d u e → AreKept s m u e
 kept_on s t u m d e a b =
     record {
       same_frame = b.same_frame ∙ a.same_frame;
+      same_store = b.same_store ∙ a.same_store;
+      same_number = b.same_number ∙ a.same_number;
       same_living = b.same_living ∙ a.same_living;
       same_temporaries = b.same_temporaries ∙ a.same_temporaries;
       same_held = b.same_held ∙ a.same_held;
@@ -73,9 +76,14 @@ module _ (image : Image) (function : ℕ) (Fly : source.State → State → sour
   at_place s m from to operands operation a h =
       ap (λ o. progress image (acted image (running_at m from operands) o)) (ap (λ f. operation_at image f from) a.in_function ∙ h.here)
 
+  -- a jump
+  pub jumps_to : (s : source.State) (m : State) (from to : ℕ) (operands : List Value) → Agrees function s m → operation_at image function from ≡ Some (does.Jump to) → image_step image (running_at m from operands) ≡ goes (running_at m to operands) None
+  unfolding step
+  jumps_to s m from to operands a h = ap (λ o. progress image (acted image (running_at m from operands) o)) (ap (λ f. operation_at image f from) a.in_function ∙ h)
+
   -- a state that stands for another one with any budget
   pub with_budget : (s : source.State) (m : State) (budget : ℕ) → Agrees function s m → Agrees function (record s { budget = budget }) m
-  with_budget s m budget a = record { in_function = a.in_function; same_store = a.same_store; same_next = a.same_next; same_input = a.same_input }
+  with_budget s m budget a = record { in_function = a.in_function; same_store = a.same_store; same_next = a.same_next; same_input = a.same_input; same_names = a.same_names }
 
   -- a silent step that puts a value on the operands
   pub puts : (s : source.State) (m : State) (budget from to : ℕ) (before operands : List Value) (v : store.Value) (w : Value) → Agrees function s m → IsValue v w → to ≡ from + 1
@@ -95,7 +103,7 @@ module _ (image : Image) (function : ℕ) (Fly : source.State → State → sour
           is_there = ap (λ p. running_at m p (w ∷ operands)) (sym e);
           same_value = is;
           agrees = with_budget s m budget a;
-          kept = record { same_frame = refl; same_living = refl; same_temporaries = refl; same_held = refl; same_slots = refl; same_pending = refl; same_below = refl; same_exceptions = refl };
+          kept = record { same_frame = refl; same_store = refl; same_number = refl; same_living = refl; same_temporaries = refl; same_held = refl; same_slots = refl; same_pending = refl; same_below = refl; same_exceptions = refl };
         };
       }
 

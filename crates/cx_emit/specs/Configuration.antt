@@ -12,6 +12,7 @@ use Rattle.cx_code.specs.Unwind.{covers, first_left, regions_of}
 use Rattle.cx_code.specs.Run.{code_of}
 use Rattle.cx_core.specs.Store as store
 use Rattle.cx_core.specs.Outcome as source
+use Rattle.cx_core.specs.Operators.{denoted}
 use Rattle.cx_emit.specs.Values.{IsValue, IsStore}
 
 -- the machine runs at a place of its last frame, with these operands there
@@ -27,16 +28,23 @@ pub record Has (image : Image) (function place : ℕ) (operation : Operation) (b
   pub here : operation_at image function place ≡ Some operation
   pub next : behind ≡ place + 1
 
--- the machine's last frame is one of the function, and its memory and input are those of the state of the meaning
+-- each slot that a name of the source denotes something by holds that
+abbrev pub AreNamed : List (ℕ × store.Value) → List (Option Value) → Type 0
+AreNamed variables slots = (slot : ℕ) (v : store.Value) → denoted variables slot ≡ Some v → (w : Value) × (slice_get slots slot ≡ Some (Some w)) × IsValue v w
+
+-- the machine's last frame is one of the function, and its names, its memory and its input are those of the state of the meaning
 pub record Agrees (function : ℕ) (s : source.State) (m : State) : Type 0 where
   pub in_function : m.frame.function ≡ function
   pub same_store : IsStore s.store m.store
   pub same_next : m.store.next ≡ s.next
   pub same_input : m.input ≡ s.input
+  pub same_names : AreNamed s.frame.variables m.frame.slots
 
 -- what a part of an expression leaves as it was, in the meaning and in the machine
 pub record AreKept (s : source.State) (m : State) (t : source.State) (d : State) : Type 0 where
   pub same_frame : t.frame ≡ s.frame
+  pub same_store : t.store ≡ s.store
+  pub same_number : t.next ≡ s.next
   pub same_living : t.living ≡ s.living
   pub same_temporaries : t.temporaries ≡ s.temporaries
   pub same_held : t.held ≡ s.held

@@ -3,6 +3,7 @@ pub mod Configuration
 pub mod Operations
 pub mod Stands
 pub mod Checks
+pub mod Scopes
 pub mod Statements
 pub mod Units
 pub mod Laws

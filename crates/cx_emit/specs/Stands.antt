@@ -7,8 +7,8 @@ use Rattle.cx_code.specs.declared.operation.Scalar.TheVariants as scalars
 use Rattle.cx_core.specs.declared.number.IntegerType.{IntegerType}
 use Rattle.cx_core.specs.declared.number.IntegerType.TheVariants as types
 use Rattle.cx_core.specs.Operators.{integer_of}
-use Rattle.cx_core.specs.Tree.{ObjectType, scalar, pointer, class, Constant, number, nullptr, Expr, literal, global, unary, binary, Operand, operand}
-use Rattle.cx_emit.specs.Configuration.{Has}
+use Rattle.cx_core.specs.Tree.{ObjectType, scalar, pointer, class, Constant, number, nullptr, Expr, literal, variable, global, unary, binary, putchar, Operand, operand}
+use Rattle.cx_emit.specs.Configuration.{operation_at, Has}
 use Rattle.cx_emit.specs.Operations.{scalar_of, unary_operation, binary_operation}
 
 module _ (image : Image) (function : ℕ) where
@@ -45,9 +45,12 @@ module _ (image : Image) (function : ℕ) where
     -- from the one place the code evaluates the expression, and goes on at the other; none does for a form that isn't here
     pub StandsExpr : Expr → ℕ → ℕ → Type 0
     StandsExpr (literal c) from to = StandsConstant c from to
+    StandsExpr (variable slot) from to = Has image function from (does.Get slot) to
     StandsExpr (global index) from to = Has image function from (does.Global index) to
     StandsExpr (unary operator type a) from to = (p : ℕ) × StandsOperand a from p × HasSome p (unary_operation operator type) to
     StandsExpr (binary operator type a b) from to = (p q : ℕ) × StandsOperand a from p × StandsOperand b p q × HasSome q (binary_operation operator type) to
+    -- two units, of which the jump to the next place stands for the one
+    StandsExpr (putchar a) from to = (p q : ℕ) × StandsOperand a from p × (operation_at image function p ≡ Some (does.Jump q)) × Has image function q does.Out to
     StandsExpr other from to = ⊥
 
     pub StandsOperand : Operand → ℕ → ℕ → Type 0

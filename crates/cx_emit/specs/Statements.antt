@@ -1,34 +1,81 @@
--- Which code stands for statements: a relation between a tree and the places where its code begins, where it goes on, and where a value is returned, by recursion on the tree. This is this project's own.
-use Rattle.std.specs.Prelude.{◌≡◌, ℕ, []}
+-- Which code stands for statements: a relation between a tree and the places where its code begins and where it goes on, by recursion on the tree. This is this project's own.
+use Rattle.std.specs.Prelude.{◌≡◌, ℕ, suc, ◌<◌, Bool, true, false, List, [], ◌∷◌, Some, length}
 use Rattle.cx_code.specs.declared.image.Image.{Image}
 use Rattle.cx_code.specs.declared.operation.Operation.TheVariants as does
-use Rattle.cx_code.specs.State.{State}
 use Rattle.cx_core.specs.Words.{Definer}
-use Rattle.cx_core.specs.Tree.{Stmt, Stmts, empty, expression, block, contract_assert, return_value, done, next}
-use Rattle.cx_core.specs.Outcome as source
-use Rattle.cx_core.specs.Statements.{Completion, on_to_next, break, continue, return}
-use Rattle.cx_emit.specs.Configuration.{Has, IsAt, Gives}
+use Rattle.cx_core.specs.Tree.{scalar, Expr, assign, Operand, value, Stmt, Stmts, empty, expression, variable_declaration, block, if_else, while_loop, for_loop, Condition, always, while, break, continue, contract_assert, return_value, done, next}
+use Rattle.cx_emit.specs.Configuration.{operation_at, Has}
 use Rattle.cx_emit.specs.Stands.{StandsExpr, StandsOperand}
-use Rattle.cx_emit.specs.Checks.{GoesOn, StandsCheck}
+use Rattle.cx_emit.specs.Checks.{GoesOn, StandsTruth, StandsCheck}
+use Rattle.cx_emit.specs.Scopes.{Loop, Surroundings, inside, in_loop, IsUnused, slot_count, StandsEnds, StandsExit}
 
-module _ (image : Image) (function exit : ℕ) where
+-- the slots of a scope's objects behind a statement
+abbrev pub behind : Stmt → List ℕ → List ℕ
+behind (variable_declaration slot type init) now = slot ∷ now
+behind other now = now
+
+-- a branch or the body of a loop that declares a variable is a scope of its own, a block [stmt.select.general]
+abbrev pub declares : Stmt → Bool
+declares (variable_declaration slot type init) = true
+declares other = false
+
+-- what always goes on with what follows it, as the first part of a `for` and its step are
+abbrev pub goes_on : Stmt → Bool
+goes_on empty = true
+goes_on (expression e) = true
+goes_on (variable_declaration slot type init) = true
+goes_on other = false
+
+module _ (image : Image) (function : ℕ) where
+  -- the value of an expression is dropped; an assignment leaves none
+  abbrev pub StandsDiscarded : Expr → ℕ → ℕ → Type 0
+  StandsDiscarded (assign a b) from to = (p q r : ℕ) × StandsOperand image function b from p × StandsExpr image function a p q × Has image function q does.Swap r × Has image function r does.Store to
+  StandsDiscarded e from to = (p : ℕ) × StandsExpr image function e from p × Has image function p does.Discard to
+
+  -- an object is made in a slot of its own, and its value is stored
+  pub record StandsDeclaration (scopes : List (List ℕ)) (slot : ℕ) (a : Operand) (from to : ℕ) : Type 0 where
+    pub is_unused : IsUnused slot scopes
+    pub is_slot : slot < slot_count image function
+    pub made : ℕ
+    pub placed : ℕ
+    pub valued : ℕ
+    pub makes : Has image function from (does.Make 1 slot) made
+    pub gets : Has image function made (does.Get slot) placed
+    pub stands : StandsOperand image function a placed valued
+    pub stores : Has image function valued does.Store to
+
+  -- the code goes on behind it where the condition holds, and else at another place
+  abbrev pub StandsCondition : Condition → (from to other : ℕ) → Type 0
+  StandsCondition always from to other = to ≡ from
+  StandsCondition (while c) from to other = (p : ℕ) × StandsTruth image function c from p × Has image function p (does.JumpZero other) to
+
   unfoldable mutual
-    -- no operand stands where a statement begins; none of these declares a variable
-    pub StandsStmt : Stmt → ℕ → ℕ → Type 0
-    StandsStmt empty from to = to ≡ from
-    StandsStmt (expression e) from to = (p : ℕ) × StandsExpr image function e from p × Has image function p does.Discard to
-    StandsStmt (block b) from to = StandsStmts b from to
-    StandsStmt (contract_assert c) from to = StandsCheck image function Definer c from to
-    StandsStmt (return_value a) from to = (p : ℕ) × StandsOperand image function a from p × GoesOn image function p exit
-    StandsStmt other from to = ⊥
+    -- no operand stands where a statement begins; the innermost scope has declared objects in these slots so far
+    pub StandsStmt : Surroundings → List ℕ → Stmt → ℕ → ℕ → Type 0
+    StandsStmt around now empty from to = to ≡ from
+    StandsStmt around now (expression e) from to = StandsDiscarded e from to
+    StandsStmt around now (variable_declaration slot (scalar type) (value a)) from to = StandsDeclaration (now ∷ around.scopes) slot a from to
+    StandsStmt around now (block b) from to = StandsStmts (inside around now) [] b from to
+    StandsStmt around now (if_else c a b) from to =
+        (declares a ≡ false) × (declares b ≡ false) × (p q other : ℕ) × StandsCondition (while c) from p other × StandsStmt around now a p q × GoesOn image function q to × StandsStmt around now b other to
+    -- a loop is entered by a jump, since each turn begins with a unit that has no instruction of its own
+    StandsStmt around now (while_loop c body) from to =
+        (declares body ≡ false) × (top p q : ℕ) × (operation_at image function from ≡ Some (does.Jump top)) × StandsCondition (while c) top p to
+        × StandsStmt (in_loop around to q) now body p q × (operation_at image function q ≡ Some (does.Jump top))
+    -- a scope of what is declared first; `continue` goes to the step
+    StandsStmt around now (for_loop first c step body) from to =
+        (goes_on first ≡ true) × (goes_on step ≡ true) × (declares step ≡ false) × (declares body ≡ false) × (start top p again end over : ℕ)
+        × StandsStmt (inside around now) [] first from start × (operation_at image function start ≡ Some (does.Jump top)) × StandsCondition c top p over
+        × StandsStmt (in_loop (inside around now) over again) (behind first []) body p again × StandsStmt (inside around now) (behind first []) step again end
+        × (operation_at image function end ≡ Some (does.Jump top)) × StandsEnds image function (behind first []) over to
+    StandsStmt around now break from to = (l : Loop) × (around.loop ≡ Some l) × StandsExit image function l.depth (now ∷ around.scopes) from l.break_to
+    StandsStmt around now continue from to = (l : Loop) × (around.loop ≡ Some l) × StandsExit image function l.depth (now ∷ around.scopes) from l.continue_to
+    StandsStmt around now (contract_assert c) from to = StandsCheck image function Definer c from to
+    -- the value stays on the operands while the objects of all scopes end
+    StandsStmt around now (return_value a) from to = (p : ℕ) × StandsOperand image function a from p × StandsExit image function (suc (length around.scopes)) (now ∷ around.scopes) p around.exit
+    StandsStmt around now other from to = ⊥
 
-    pub StandsStmts : Stmts → ℕ → ℕ → Type 0
-    StandsStmts done from to = to ≡ from
-    StandsStmts (next a rest) from to = (p : ℕ) × StandsStmt a from p × StandsStmts rest p to
-
--- where a statement is left: behind it, or with the value that is returned on the operands
-abbrev pub Completes : (function to exit : ℕ) → source.State → State → Completion → State → source.State → Type 0
-Completes function to exit s m on_to_next d t = IsAt function to [] s m d t
-Completes function to exit s m (return v) d t = Gives function exit [] s m v d t
-Completes function to exit s m break d t = ⊥
-Completes function to exit s m continue d t = ⊥
+    -- the statements of a scope, at whose end its objects end
+    pub StandsStmts : Surroundings → List ℕ → Stmts → ℕ → ℕ → Type 0
+    StandsStmts around now done from to = StandsEnds image function now from to
+    StandsStmts around now (next a rest) from to = (p : ℕ) × StandsStmt around now a from p × StandsStmts around (behind a now) rest p to

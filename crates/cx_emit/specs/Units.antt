@@ -16,6 +16,7 @@ use Rattle.cx_simulation.specs.Parts.{IsWellMade}
 use Rattle.cx_emit.specs.Values.{IsStore}
 use Rattle.cx_emit.specs.Configuration.{operation_at, Has}
 use Rattle.cx_emit.specs.Checks.{GoesOn, HaveDefaultHandler}
+use Rattle.cx_emit.specs.Scopes.{around_body}
 use Rattle.cx_emit.specs.Statements.{StandsStmts}
 
 abbrev pub no_checks : Checks
@@ -44,7 +45,7 @@ pub record StandsMain (image : Image) (b : Stmts) : Type 0 where
   pub end : ℕ
   pub behind : ℕ
   pub exit : ℕ
-  pub stands : StandsStmts image body exit b 0 end
+  pub stands : StandsStmts image body (around_body exit) [] b 0 end
   pub ends_with_zero : Has image body end (does.Push (pos 0)) behind
   pub then_exits : GoesOn image body behind exit
   pub exits : operation_at image body exit ≡ Some does.Return

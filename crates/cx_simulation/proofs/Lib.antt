@@ -5,3 +5,5 @@ pub mod Halts
 pub mod Permitted
 pub mod Parts
 pub mod MainFollowed
+pub mod Loops
+pub mod Changes

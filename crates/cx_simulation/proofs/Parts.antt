@@ -187,7 +187,7 @@ module _ {C : Type 0} (step : C → Progress C) where
   -- a unit is spent that a step of before or of behind stands for
   pub follows_spend : {B : Type 0} (n : ℕ) (s : State) (c : C) (account : Account) (saves late : ℕ) (Q : B → C → State → Type 0) (E : Exception → C → State → Type 0) (m : Does B)
       → saves ≤ account.saves + 32 → account.late ≤ late + 32
-      → ((left : ℕ) → Follows step n (record s { budget = left }) c account Q E (m (record s { budget = left })))
+      → ((left : ℕ) → left + 1 ≤ s.budget → Follows step n (record s { budget = left }) c account Q E (m (record s { budget = left })))
       → Follows step n s c (record { saves = saves; owes = account.owes; late = late; hand = account.hand + 1 }) Q E (either spend (λ _. m) throws s)
   unfolding either spend throws
   follows_spend {B} n s c account saves late Q E m small slow f = record { comes = by_left s.budget refl }
@@ -208,7 +208,7 @@ module _ {C : Type 0} (step : C → Progress C) where
       by_left : (l : ℕ) → s.budget ≡ l → Comes step n s c (record { saves = saves; owes = account.owes; late = late; hand = account.hand + 1 }) Q E (after (spend_of l s) (λ _. m) throws)
       by_left zero e = record { steps = 0; to = c; takes = takes_none c s.trace; enough = omega (arith, e); steps_paid = omega arith }
       by_left (suc zero) e = record { steps = 0; to = c; takes = takes_none c s.trace; enough = omega (arith, e); steps_paid = omega arith }
-      by_left (suc (suc l)) e = paid l e (m (record s { budget = suc l })) (f (suc l)).comes
+      by_left (suc (suc l)) e = paid l e (m (record s { budget = suc l })) (f (suc l) (omega (arith, e))).comes
 
   -- a part, and what is done where it goes on and where an exception has left it
   pub follows_either : {A B : Type 0} (n : ℕ) (s : State) (c : C) (first second caught both : Account) (P : A → C → State → Type 0) (Q : B → C → State → Type 0) (E F : Exception → C → State → Type 0) (m : Does A) (next : A → Does B) (catches : Exception → Does B)
