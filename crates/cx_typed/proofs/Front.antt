@@ -6,15 +6,18 @@ use Rattle.std.proofs.lemmas.Bool.{leb-true}
 use Rattle.std.proofs.lemmas.List.Elements.{All-nil, All-push}
 use Rattle.cx_syntax.specs.declared.mark.Mark.{Mark}
 use Rattle.cx_syntax.specs.declared.mark.Mark.TheVariants as M
-use Rattle.cx_syntax.specs.declared.mark.Punct.{Punct}
-use Rattle.cx_syntax.specs.declared.mark.Punct.TheVariants as P
-use Rattle.cx_syntax.specs.Tree.{Item, Stmt, Stmts, UnitTree, asserts, binary, block, defined, function, leaf, more_items, more_stmts, no_items, no_stmts, paren, returns}
+use Rattle.cx_syntax.specs.declared.mark.Word.{Word}
+use Rattle.cx_syntax.specs.declared.mark.Word.TheVariants as W
+use Rattle.cx_core.specs.declared.number.BinaryOperator.{BinaryOperator}
+use Rattle.cx_core.specs.declared.number.UnaryOperator.{UnaryOperator}
+use Rattle.cx_syntax.specs.Tree.{Item, Stmt, Stmts, UnitTree, asserts, block, defined, function, leaf, more_items, more_stmts, no_items, no_stmts, paren, returns}
 use Rattle.cx_syntax.specs.Tree as tree
 use Rattle.cx_includes.specs.declared.assembled.Assembled.{Assembled}
 use Rattle.cx_includes.specs.declared.assembled.Placed.{Placed}
 use Rattle.cx_front.specs.Literal.{greatest_int, is_decimal, decimal_value}
-use Rattle.cx_front.specs.Plain.{Plain, PlainCheck, PlainUnit, number, less}
-use Rattle.cx_front.specs.Front.{both, word_at, leaf_of, operator_of, expr_in, check_of, check_in, with_check, checks_in, returned, value_in, unit_with, body_in, main_in, unit_in}
+use Rattle.cx_front.specs.Plain.{Plain, PlainCheck, PlainUnit, number}
+use Rattle.cx_front.specs.Plain as plain
+use Rattle.cx_front.specs.Front.{both, word_at, truth_of, leaf_of, unary_operator, binary_operator, with_operands, expr_in, check_of, check_in, with_check, checks_in, returned, value_in, unit_with, body_in, main_in, unit_in}
 use Rattle.cx_typed.specs.Typed.{HasInts, UnitHasInts}
 use Rattle.cx_typed.specs.Laws.{BuiltUnitsHaveInts}
 
@@ -33,27 +36,36 @@ value_is_int true true value word e = leb-true value greatest_int e
 value_is_int true false value word e = tt {0}
 value_is_int false is_small value word e = tt {0}
 
+truth_has_ints : (word : Word) → IfSome (truth_of word) HasInts
+truth_has_ints W.True = tt {0}
+truth_has_ints W.False = tt {0}
+truth_has_ints word = tt {0}
+
 leaf_has_ints : (word : List ℕ) (mark : Mark) → IfSome (leaf_of word mark) HasInts
 leaf_has_ints word M.Number = value_is_int (is_decimal word) (nat_le (decimal_value word) greatest_int) (decimal_value word) word refl
+leaf_has_ints word (M.Word k) = truth_has_ints k
 leaf_has_ints word mark = tt {0}
 
-less_has_ints : (l r : Option Plain) → IfSome l HasInts → IfSome r HasInts → IfSome (both less l r) HasInts
-less_has_ints None r h k = tt {0}
-less_has_ints (Some l) None h k = tt {0}
-less_has_ints (Some l) (Some r) h k = (h, k)
+unary_has_ints : (operator : Option UnaryOperator) (e : Option Plain) → IfSome e HasInts → IfSome (both plain.unary operator e) HasInts
+unary_has_ints None e h = tt {0}
+unary_has_ints (Some operator) None h = tt {0}
+unary_has_ints (Some operator) (Some e) h = h
 
-operator_has_ints : (punct : Punct) (l r : Option Plain) → IfSome l HasInts → IfSome r HasInts → IfSome (operator_of punct l r) HasInts
-operator_has_ints P.Less l r h k = less_has_ints l r h k
-operator_has_ints punct l r h k = tt {0}
+binary_has_ints : (operator : Option BinaryOperator) (l r : Option Plain) → IfSome l HasInts → IfSome r HasInts → IfSome (with_operands operator l r) HasInts
+binary_has_ints None l r h k = tt {0}
+binary_has_ints (Some operator) None r h k = tt {0}
+binary_has_ints (Some operator) (Some l) None h k = tt {0}
+binary_has_ints (Some operator) (Some l) (Some r) h k = (h, k)
 
-parens_have_ints : (e : Option Plain) → IfSome e HasInts → IfSome (option_map Rattle.cx_front.specs.Plain.parens e) HasInts
+parens_have_ints : (e : Option Plain) → IfSome e HasInts → IfSome (option_map plain.parens e) HasInts
 parens_have_ints None h = tt {0}
 parens_have_ints (Some e) h = h
 
 expr_has_ints : (list : Assembled) (e : tree.Expr) → IfSome (expr_in list e) HasInts
 expr_has_ints list (leaf i m) = leaf_has_ints (word_at list i) m
 expr_has_ints list (paren i e j) = parens_have_ints (expr_in list e) (expr_has_ints list e)
-expr_has_ints list (binary i l p j r) = operator_has_ints p (expr_in list l) (expr_in list r) (expr_has_ints list l) (expr_has_ints list r)
+expr_has_ints list (tree.unary i p e) = unary_has_ints (unary_operator p) (expr_in list e) (expr_has_ints list e)
+expr_has_ints list (tree.binary i l p j r) = binary_has_ints (binary_operator p) (expr_in list l) (expr_in list r) (expr_has_ints list l) (expr_has_ints list r)
 expr_has_ints list other = tt {0}
 
 -- ---- statements

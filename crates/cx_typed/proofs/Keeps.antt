@@ -1,20 +1,22 @@
--- Parts of a run that keep the scope they are in and come to no end but a contract's, and how they go together.
+-- Parts of a run that keep the scope they are in and come to no end but a contract's or an operator's, and how they go together.
 use Rattle.std.proofs.Common.{◌≡◌, refl, sym, ap, ◌∙◌, subst, ℕ, zero, suc, List, [], ◌∷◌, None}
-use Rattle.cx_core.specs.Words.{ContractTerminated}
+use Rattle.cx_core.specs.Words.{ContractTerminated, Undefined}
 use Rattle.cx_core.specs.Event.{Evaluation, Event, Answer, ended}
 use Rattle.cx_core.specs.Outcome.{Living, Exception, Frame, State, Outcome, on, thrown, over, Does, Nothing, after, either, gives, throws, ends, current_frame, set_frame, current_living, set_living, current_temporaries, set_temporaries, append, spend, spend_of, ◌>>=◌, ◌>>◌}
 use Rattle.cx_core.specs.Block.{next_told, next_of, begin_told, begin_of}
 use Rattle.cx_core.specs.Program.{Program}
 use Rattle.cx_core.specs.Leaving.{Calls, within, in_unit, end_each, scope, full_expression}
+use Rattle.cx_typed.proofs.Ranges.{IsOfNumbers}
 
 pub record IsKept (s t : State) : Type 0 where
   pub same_frame : t.frame ≡ s.frame
   pub same_living : t.living ≡ s.living
   pub same_temporaries : t.temporaries ≡ s.temporaries
 
--- the run is ended by a contract, or no more is said of it
+-- the run is ended by a contract or by undefined behaviour that numbers have, or no more is said of it
 abbrev pub IsEnd : Answer → Type 0
 IsEnd (ended ContractTerminated) = Unit {0}
+IsEnd (ended (Undefined kind)) = IsOfNumbers kind
 IsEnd (ended other) = ⊥
 IsEnd other = Unit {0}
 

@@ -1,3 +1,4 @@
+mod Ranges
 mod Front
 mod Keeps
 mod Expressions

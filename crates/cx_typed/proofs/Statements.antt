@@ -18,7 +18,7 @@ use Rattle.cx_core.specs.Meaning.{evaluated, checked, result_stored, returned, s
 use Rattle.cx_front.specs.Plain.{Plain, PlainCheck, PlainUnit}
 use Rattle.cx_typed.specs.Typed.{type_of, as_int, as_predicate, assertion_of, check_of, statements_from, program_of, HasInts}
 use Rattle.cx_typed.proofs.Keeps.{Keeps, Always, HasNoResult, either_keeps, gives_keeps, ends_keep, append_keeps, spend_keeps, next_told_keeps, begin_told_keeps, current_frame_keeps, full_expression_keeps}
-use Rattle.cx_typed.proofs.Expressions.{IsOf, IsIn, int_keeps, predicate_keeps}
+use Rattle.cx_typed.proofs.Expressions.{IsIn, int_keeps, predicate_keeps}
 
 -- a statement is left for the next one
 abbrev GoesOn : Completion → Type 0
@@ -27,25 +27,17 @@ GoesOn completion = ⊥
 
 -- `return` with a number of `int`
 abbrev pub ReturnsInt : Completion → Type 0
-ReturnsInt (return v) = IsOf types.Int v
+ReturnsInt (return v) = IsIn types.Int v
 ReturnsInt completion = ⊥
 
 -- ---- an evaluation
 
 -- each number has a truth
-number_has_truth : (type : IntegerType) (v : Value) → IsIn type v → Keeps Always (truth v)
-number_has_truth type (number n) h = gives_keeps Always _ (tt {0})
-number_has_truth type (address a) h = absurd h
-number_has_truth type null h = absurd h
-number_has_truth type (violation v) h = absurd h
-
-truth_keeps : (type : IntegerType) (v : Value) → IsOf type v → Keeps Always (truth v)
-truth_keeps types.Int v h = number_has_truth types.Int v h
-truth_keeps types.Bool v h = number_has_truth types.Bool v h
-truth_keeps types.Char v h = absurd h
-truth_keeps types.Unsigned v h = absurd h
-truth_keeps types.LongLong v h = absurd h
-truth_keeps types.UnsignedLongLong v h = absurd h
+truth_keeps : (type : IntegerType) (v : Value) → IsIn type v → Keeps Always (truth v)
+truth_keeps type (number n) h = gives_keeps Always _ (tt {0})
+truth_keeps type (address a) h = absurd h
+truth_keeps type null h = absurd h
+truth_keeps type (violation v) h = absurd h
 
 module _ (semantic : Semantic) (unit : PlainUnit) (calls : Calls) where
   violated_keeps : (chosen : Semantic) (v : Violation) → Keeps Always (violated (program_of semantic unit) calls chosen (handle (program_of semantic unit) calls v))
@@ -62,7 +54,7 @@ module _ (semantic : Semantic) (unit : PlainUnit) (calls : Calls) where
       → Keeps Always (evaluation (program_of semantic unit) calls c (evaluated (program_of semantic unit) calls (as_predicate predicate)))
   evaluation_keeps c predicate h =
       either_keeps Always Always _ (verdict_on (program_of semantic unit) calls c.assertion c.semantic) (verdict_threw (program_of semantic unit) calls c.assertion c.semantic)
-      (either_keeps (IsOf (type_of predicate)) Always _ truth throws (full_expression_keeps (program_of semantic unit) calls (IsOf (type_of predicate)) _ (predicate_keeps (program_of semantic unit) calls predicate h)) (truth_keeps (type_of predicate)))
+      (either_keeps (IsIn (type_of predicate)) Always _ truth throws (full_expression_keeps (program_of semantic unit) calls (IsIn (type_of predicate)) _ (predicate_keeps (program_of semantic unit) calls predicate h)) (truth_keeps (type_of predicate)))
       (λ holds _. verdict_keeps c.assertion c.semantic holds)
 
 -- ---- a row of one assertion
@@ -97,15 +89,15 @@ checked_keeps QuickEnforce unit calls ordinal check h = once_keeps (told_of Quic
 
 module _ (program : Program) (calls : Calls) where
   -- there is no result object
-  stored_keeps : (result : Option Value) (v : Value) → result ≡ None → IsOf types.Int v → Keeps (IsOf types.Int) (result_stored program calls result v)
-  stored_keeps None v none h = gives_keeps (IsOf types.Int) v h
+  stored_keeps : (result : Option Value) (v : Value) → result ≡ None → IsIn types.Int v → Keeps (IsIn types.Int) (result_stored program calls result v)
+  stored_keeps None v none h = gives_keeps (IsIn types.Int) v h
   stored_keeps (Some place) v none h = absurd (cc)
 
-  returned_keeps : (value : Plain) → HasInts value → Keeps (IsOf types.Int) (returned program calls (as_int value))
+  returned_keeps : (value : Plain) → HasInts value → Keeps (IsIn types.Int) (returned program calls (as_int value))
   returned_keeps value h =
-      full_expression_keeps program calls (IsOf types.Int) _
-      (either_keeps (IsOf types.Int) (IsOf types.Int) _ _ throws (int_keeps program calls value h)
-      (λ v is. either_keeps HasNoResult (IsOf types.Int) current_frame _ throws current_frame_keeps (λ frame none. stored_keeps frame.result v none is)))
+      full_expression_keeps program calls (IsIn types.Int) _
+      (either_keeps (IsIn types.Int) (IsIn types.Int) _ _ throws (int_keeps program calls value h)
+      (λ v is. either_keeps HasNoResult (IsIn types.Int) current_frame _ throws current_frame_keeps (λ frame none. stored_keeps frame.result v none is)))
 
   -- behind an assertion statement
   next_keeps : (rest : Does Completion) (completion : Completion) → GoesOn completion → Keeps ReturnsInt rest → Keeps ReturnsInt (sequence rest completion)
@@ -126,7 +118,7 @@ pub statements_keep : (semantic : Semantic) (unit : PlainUnit) (calls : Calls) (
 unfolding stmt
 statements_keep semantic unit calls ordinal [] value all h =
     either_keeps ReturnsInt ReturnsInt _ _ throws
-    (either_keeps (IsOf types.Int) ReturnsInt _ _ throws (returned_keeps (program_of semantic unit) calls value h) (λ v is. gives_keeps ReturnsInt (return v) is))
+    (either_keeps (IsIn types.Int) ReturnsInt _ _ throws (returned_keeps (program_of semantic unit) calls value h) (λ v is. gives_keeps ReturnsInt (return v) is))
     (last_keeps (program_of semantic unit) calls _)
 statements_keep semantic unit calls ordinal (check ∷ checks) value all h =
     either_keeps GoesOn ReturnsInt _ _ throws

@@ -12,7 +12,8 @@ use Rattle.cx_core.specs.Number.{truth_number}
 use Rattle.cx_core.specs.Words.{Assert, Semantic, Ignore}
 use Rattle.cx_core.specs.Tree as tree
 use Rattle.cx_core.specs.Tree.{Expr, literal, Operand, operand, Assertion, Check, Stmts, contract_assert, return_value, done, next}
-use Rattle.cx_core.specs.Program.{Program, Function, Checks, function, exit_status}
+use Rattle.cx_core.specs.Program.{Program, Function, function, exit_status}
+use Rattle.cx_emit.specs.Units.{no_checks}
 use Rattle.cx_front.specs.Literal.{greatest_int}
 use Rattle.cx_front.specs.Plain.{Plain, PlainCheck, PlainUnit, number, truth, parens}
 use Rattle.cx_front.specs.Plain as plain
@@ -94,9 +95,6 @@ statements_from semantic ordinal (check ∷ checks) value = next (contract_asser
 
 abbrev pub body_of : Semantic → PlainUnit → Stmts
 body_of semantic unit = statements_from semantic 1 unit.checks unit.value
-
-abbrev pub no_checks : Checks
-no_checks = record { preconditions = []; postconditions = [] }
 
 abbrev pub main_of : Stmts → Function
 main_of body = record { definer = 0; noexcept = false; result = exit_status; checks = no_checks; body = function body }
