@@ -9,7 +9,9 @@ use Rattle.cx_syntax.specs.Tree.{Expr as Tree, Stmt, Stmts, TypeTree, UnitTree, 
 use Rattle.cx_includes.specs.declared.assembled.Assembled.{Assembled}
 use Rattle.cx_includes.specs.declared.assembled.Placed.{Placed}
 use Rattle.cx_front.specs.Literal.{int_value}
-use Rattle.cx_front.specs.Plain.{Plain, PlainCheck, PlainUnit, number, parens, less}
+use Rattle.cx_core.specs.declared.number.BinaryOperator.TheVariants as operators
+use Rattle.cx_front.specs.Plain.{Plain, PlainCheck, PlainUnit, number, parens}
+use Rattle.cx_front.specs.Plain as plain
 use Rattle.cx_front.specs.Front.{word_at, expr_in, check_in, checks_in, value_in, body_in, is_int, is_empty, is_bare, main_in, unit_in}
 
 token : TokenKind → ℕ → ℕ → Placed
@@ -51,7 +53,7 @@ tree = more_items no_items (function None int 3 1 (no_params 2 3) (suffix None n
 -- what it means
 
 one_less_two : Plain
-one_less_two = less (number 1 (codes "1")) (number 2 (codes "2"))
+one_less_two = plain.binary operators.Less (number 1 (codes "1")) (number 2 (codes "2"))
 
 check : PlainCheck
 check = record { predicate = one_less_two; file = codes "a.cpp"; line = 1; column = 12 }
@@ -79,7 +81,7 @@ an_expression : expr_in list predicate ≡ Some one_less_two
 unfolding list token predicate one_less_two
 an_expression = refl
 
-no_expression : expr_in list (binary 7 (leaf 7 M.Number) P.Greater 8 (leaf 9 M.Number)) ≡ None
+no_expression : expr_in list (binary 7 (leaf 7 M.Number) P.Both 8 (leaf 9 M.Number)) ≡ None
 unfolding list token
 no_expression = refl
 

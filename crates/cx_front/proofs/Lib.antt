@@ -5,3 +5,4 @@ pub mod Statements
 pub mod Trees
 pub mod Sizes
 pub mod Examples
+pub mod Operators

@@ -9,6 +9,10 @@ use Rattle.cx_syntax.specs.declared.mark.Mark.{Mark}
 use Rattle.cx_syntax.specs.declared.mark.Mark.TheVariants as M
 use Rattle.cx_syntax.specs.declared.mark.Punct.{Punct}
 use Rattle.cx_syntax.specs.declared.mark.Punct.TheVariants as P
+use Rattle.cx_syntax.specs.declared.mark.Word.{Word}
+use Rattle.cx_syntax.specs.declared.mark.Word.TheVariants as W
+use Rattle.cx_core.specs.declared.number.BinaryOperator.{BinaryOperator}
+use Rattle.cx_core.specs.declared.number.UnaryOperator.{UnaryOperator}
 use Rattle.cx_syntax.specs.Tree.{Base, Expr as Tree, Item, Params, Stmt, Stmts, Suffix, TypeTree, UnitTree, assign, asserts, binary, block, branch, branches, breaks, call, choose, class_base, class_defined, class_named, compound, continues, declare, declared, defined, empty, evaluate, external, for_loop, function, global, leaf, library, library_base, long_long, member, more_items, more_specs, more_stmts, no_items, no_params, no_specs, no_stars, no_stmts, outer_constructor, outer_destructor, outer_method, params, paren, returns, standard, star, static_cast, stepped, suffix, temporary, throws, tries, type_tree, unary, unsigned_int, unsigned_long_long, while_loop, word_base, word_cast}
 use Rattle.cx_syntax.specs.Spell.{Marks, Spots, numbered, spell_base, spell_expr, spell_item, spell_stmt, spell_stmts, spell_suffix, spell_params, spell_type}
 use Rattle.cx_syntax.specs.Spell as tree
@@ -17,20 +21,23 @@ use Rattle.cx_includes.specs.declared.assembled.Assembled.{Assembled}
 use Rattle.cx_includes.specs.declared.assembled.Placed.{Placed}
 use Rattle.cx_faults.specs.Faults.{marks_of, tokens_of, token_at}
 use Rattle.cx_front.specs.declared.source.Expr.{Expr}
-use Rattle.cx_front.specs.declared.source.Expr.TheVariants.{Number, Paren', Less'}
+use Rattle.cx_front.specs.declared.source.Expr.TheVariants.{Number, Truth, Paren', Unary', Binary'}
 use Rattle.cx_front.specs.declared.source.Check.{Check}
 use Rattle.cx_front.specs.declared.source.SourceUnit.{SourceUnit}
 use Rattle.cx_front.specs.Literal.{is_decimal, decimal_value, greatest_int}
-use Rattle.cx_front.specs.Plain.{Plain, PlainCheck, PlainUnit, number, parens, less, plain, plain_check, plain_unit}
-use Rattle.cx_front.specs.Front.{both, word_at, name_of_file, number_of, leaf_of, operator_of, expr_in, check_of, check_in, with_check, checks_in, returned, value_in, unit_with, body_in, is_int_base, is_int, is_empty, is_bare, main_in, unit_in, IsUnitOf}
-use Rattle.cx_front.specs.Spell.{spell, spell_check, spell_unit}
+use Rattle.cx_front.specs.Plain.{Plain, PlainCheck, PlainUnit, number, truth, parens, plain, plain_check, plain_unit}
+use Rattle.cx_front.specs.Plain as built
+use Rattle.cx_front.specs.Front.{both, word_at, name_of_file, number_of, truth_of, leaf_of, unary_operator, binary_operator, with_operands, expr_in, check_of, check_in, with_check, checks_in, returned, value_in, unit_with, body_in, is_int_base, is_int, is_empty, is_bare, main_in, unit_in, IsUnitOf}
+use Rattle.cx_front.specs.Spell.{binary_word, spell, spell_check, spell_unit}
 use Rattle.std.proofs.lemmas.List.{length-map}
 
 -- each literal is a decimal number of type int
 abbrev pub HasLiterals : Expr → Type 0
 HasLiterals (Number value spelling) = (is_decimal spelling ≡ true) × (decimal_value spelling ≡ value) × (value ≤ greatest_int)
+HasLiterals (Truth b) = Unit {0}
 HasLiterals (Paren' p e) = HasLiterals e
-HasLiterals (Less' p a q b) = HasLiterals a × HasLiterals b
+HasLiterals (Unary' operator p e) = HasLiterals e
+HasLiterals (Binary' operator p a q b) = HasLiterals a × HasLiterals b
 
 -- what is known of an assertion of a list
 pub record IsMadeCheck (list : Assembled) (check : Check) : Type 0 where
@@ -48,8 +55,10 @@ pub record IsMade (list : Assembled) (unit : SourceUnit) : Type 0 where
 
 abbrev word_count : Plain → ℕ
 word_count (number value word) = 1
+word_count (truth b) = 1
 word_count (parens e) = word_count e + 2
-word_count (less a b) = word_count a + word_count b + 1
+word_count (built.unary operator e) = word_count e + 1
+word_count (built.binary operator a b) = word_count a + word_count b + 1
 
 abbrev checks_count : List PlainCheck → ℕ
 checks_count [] = 0
@@ -57,8 +66,10 @@ checks_count (check ∷ checks) = word_count check.predicate + 4 + checks_count 
 
 abbrev PlainLiterals : Plain → Type 0
 PlainLiterals (number value word) = (is_decimal word ≡ true) × (decimal_value word ≡ value) × (value ≤ greatest_int)
+PlainLiterals (truth b) = Unit {0}
 PlainLiterals (parens e) = PlainLiterals e
-PlainLiterals (less a b) = PlainLiterals a × PlainLiterals b
+PlainLiterals (built.unary operator e) = PlainLiterals e
+PlainLiterals (built.binary operator a b) = PlainLiterals a × PlainLiterals b
 
 record PlainMade (list : Assembled) (check : PlainCheck) : Type 0 where
   literals : PlainLiterals check.predicate
@@ -82,6 +93,11 @@ literal word =
       | inr other ↦ rw other tt
     ]
 
+truth_made : (k : Word) (i : ℕ) → IfSome (truth_of k) (Made (leaf i (M.Word k)))
+truth_made W.True i = record { tokens = λ w. omega arith; literals = tt }
+truth_made W.False i = record { tokens = λ w. omega arith; literals = tt }
+truth_made _ i = tt
+
 leaf_made : (word : List ℕ) (i : ℕ) (m : Mark) → IfSome (leaf_of word m) (Made (leaf i m))
 leaf_made word i M.Number = if_number (number_of word) (literal word)
   where
@@ -91,7 +107,7 @@ leaf_made word i M.Number = if_number (number_of word) (literal word)
 leaf_made word i (M.Name n) = tt
 leaf_made word i (M.Class n) = tt
 leaf_made word i M.Std = tt
-leaf_made word i (M.Word k) = tt
+leaf_made word i (M.Word k) = truth_made k i
 leaf_made word i M.Char = tt
 leaf_made word i M.Text = tt
 leaf_made word i (M.Punct p) = tt
@@ -100,19 +116,22 @@ paren_made : (o : Option Plain) (t : Tree) (i j : ℕ) → IfSome o (Made t) →
 paren_made None t i j h = tt
 paren_made (Some e) t i j h = record { tokens = λ w. omega (arith, h.tokens (tree.sign P.CloseParen j w)); literals = h.literals }
 
-less_made : (a b : Option Plain) (l r : Tree) (i j : ℕ) → IfSome a (Made l) → IfSome b (Made r) → IfSome (both less a b) (Made (binary i l P.Less j r))
-less_made None b l r i j f g = tt
-less_made (Some a) None l r i j f g = tt
-less_made (Some a) (Some b) l r i j f g = record { tokens = λ w. omega (arith, f.tokens (tree.sign P.Less j (spell_expr r w)), g.tokens w); literals = (f.literals, g.literals) }
+unary_made : (f : Option UnaryOperator) (o : Option Plain) (t : Tree) (i : ℕ) (p : Punct) → IfSome o (Made t) → IfSome (both built.unary f o) (Made (unary i p t))
+unary_made None o t i p h = tt
+unary_made (Some operator) None t i p h = tt
+unary_made (Some operator) (Some e) t i p h = record { tokens = λ w. omega (arith, h.tokens w); literals = h.literals }
 
-binary_made : (p : Punct) (a b : Option Plain) (l r : Tree) (i j : ℕ) → IfSome a (Made l) → IfSome b (Made r) → IfSome (operator_of p a b) (Made (binary i l p j r))
-binary_made P.Less a b l r i j f g = less_made a b l r i j f g
-binary_made _ a b l r i j f g = tt
+binary_made : (f : Option BinaryOperator) (a b : Option Plain) (l r : Tree) (i : ℕ) (p : Punct) (j : ℕ) → IfSome a (Made l) → IfSome b (Made r) → IfSome (with_operands f a b) (Made (binary i l p j r))
+binary_made None a b l r i p j f g = tt
+binary_made (Some operator) None b l r i p j f g = tt
+binary_made (Some operator) (Some a) None l r i p j f g = tt
+binary_made (Some operator) (Some a) (Some b) l r i p j f g = record { tokens = λ w. omega (arith, f.tokens (tree.sign p j (spell_expr r w)), g.tokens w); literals = (f.literals, g.literals) }
 
 expr_made : (list : Assembled) (t : Tree) → IfSome (expr_in list t) (Made t)
 expr_made list (leaf i m) = leaf_made (word_at list i) i m
 expr_made list (paren i e j) = paren_made (expr_in list e) e i j (expr_made list e)
-expr_made list (binary i l p j r) = binary_made p (expr_in list l) (expr_in list r) l r i j (expr_made list l) (expr_made list r)
+expr_made list (unary i p e) = unary_made (unary_operator p) (expr_in list e) e i p (expr_made list e)
+expr_made list (binary i l p j r) = binary_made (binary_operator p) (expr_in list l) (expr_in list r) l r i p j (expr_made list l) (expr_made list r)
 expr_made list (temporary i n a) = tt
 expr_made list (word_cast i k j e l) = tt
 expr_made list (static_cast i j t k l e z) = tt
@@ -121,7 +140,6 @@ expr_made list (library i j m k l t a z n b) = tt
 expr_made list (member i e p j n k) = tt
 expr_made list (call i e a) = tt
 expr_made list (stepped i e p j) = tt
-expr_made list (unary i p e) = tt
 expr_made list (choose i c j a k b) = tt
 expr_made list (assign i l p j r) = tt
 
@@ -304,13 +322,17 @@ unit_made list (more_items (more_items s other) item) = tt
 
 plain_words : (e : Expr) → word_count (plain e) ≡ length (spell e)
 plain_words (Number n x) = refl
+plain_words (Truth b) = refl
 plain_words (Paren' p e) = omega (arith, plain_words e, length-append (spell e) (codes ")" ∷ []))
-plain_words (Less' p a q b) = omega (arith, plain_words a, plain_words b, length-append (spell a) (codes "<" ∷ spell b))
+plain_words (Unary' operator p e) = omega (arith, plain_words e)
+plain_words (Binary' operator p a q b) = omega (arith, plain_words a, plain_words b, length-append (spell a) (binary_word operator ∷ spell b))
 
 plain_literals : (e : Expr) → PlainLiterals (plain e) → HasLiterals e
 plain_literals (Number n x) h = h
+plain_literals (Truth b) h = h
 plain_literals (Paren' p e) h = plain_literals e h
-plain_literals (Less' p a q b) h = (plain_literals a h.0, plain_literals b h.1)
+plain_literals (Unary' operator p e) h = plain_literals e h
+plain_literals (Binary' operator p a q b) h = (plain_literals a h.0, plain_literals b h.1)
 
 plain_checks : (checks : List Check) → checks_count (map plain_check checks) ≡ length (flat_map spell_check checks)
 plain_checks [] = refl
