@@ -13,15 +13,13 @@ use Rattle.cx_code.specs.Operation.{operation_of}
 use Rattle.cx_code.specs.Reached.{taken_count, given_count, depth_after}
 use Rattle.cx_core.specs.declared.number.IntegerType.{IntegerType}
 use Rattle.cx_core.specs.declared.number.IntegerType.TheVariants as types
-use Rattle.cx_core.specs.declared.number.BinaryOperator.{BinaryOperator}
-use Rattle.cx_core.specs.declared.number.UnaryOperator.{UnaryOperator}
 use Rattle.cx_emit.specs.Operations.{scalar_of}
 use Rattle.cx_front.specs.Plain.{Plain, number, truth, parens}
 use Rattle.cx_front.specs.Plain as plain
 use Rattle.cx_front.specs.Spell.{binary_word}
 use Rattle.cx_typed.specs.Comment.{words_of}
 use Rattle.cx_typed.specs.Typed.{unary_type, type_of, conversion}
-use Rattle.cx_lower.specs.Code.{push, convert, unary_instruction, binary_instruction, conversion_code, to_type, expr_code, operand_code, violated_code, verdict_code, check_code}
+use Rattle.cx_lower.specs.Code.{push, unary_instruction, binary_instruction, conversion_code, to_type, expr_code, operand_code, violated_code, verdict_code, check_code}
 use Rattle.cx_lower.proofs.Operations.{Computes, convert_is, unary_computes, binary_computes, jump_nonzero_is, begin_is, verdict_is, violate_is, contract_end_is}
 
 -- From a depth to a depth, where each instruction finds what it needs, as if nothing jumped.

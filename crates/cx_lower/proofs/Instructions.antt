@@ -21,7 +21,7 @@ use Rattle.cx_core.specs.declared.number.UnaryOperator.TheVariants as unary
 use Rattle.cx_front.specs.Plain.{Plain, PlainCheck, PlainUnit, number, truth, parens}
 use Rattle.cx_front.specs.Plain as plain
 use Rattle.cx_typed.specs.Typed.{unary_type, type_of, conversion}
-use Rattle.cx_lower.specs.Code.{convert, unary_instruction, binary_instruction, conversion_code, to_type, expr_code, operand_code, violated_code, verdict_code, check_code, checks_code, return_code, value_code, body_code}
+use Rattle.cx_lower.specs.Code.{unary_instruction, binary_instruction, conversion_code, to_type, expr_code, operand_code, violated_code, verdict_code, check_code, checks_code, return_code, value_code, body_code}
 use Rattle.cx_lower.proofs.Leads.{some_code}
 
 -- an operation of a body: it has no slots, calls, globals, texts and exceptions, and its assertion and the place that it jumps to are below these

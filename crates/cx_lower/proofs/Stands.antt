@@ -16,7 +16,7 @@ use Rattle.cx_emit.specs.Checks.{IsAssertion, StandsViolated, StandsEvaluation, 
 use Rattle.cx_emit.specs.Scopes.{around_body}
 use Rattle.cx_emit.specs.Statements.{StandsStmt, StandsStmts}
 use Rattle.cx_typed.specs.Typed.{HasInts, unary_type, type_of, conversion, typed, as_int, assertion_of, check_of, statements_from}
-use Rattle.cx_lower.specs.Code.{convert, unary_instruction, binary_instruction, conversion_code, to_type, expr_code, operand_code, violated_code, verdict_code, evaluation_code, check_code, checks_code}
+use Rattle.cx_lower.specs.Code.{unary_instruction, binary_instruction, conversion_code, to_type, expr_code, operand_code, violated_code, verdict_code, evaluation_code, check_code, checks_code}
 use Rattle.cx_lower.proofs.Operations.{Computes, push_is, push_truth_is, convert_is, unary_computes, binary_computes, jump_nonzero_is, begin_is, verdict_is, violate_is, contract_end_is}
 use Rattle.cx_lower.proofs.Parts.{HasCode, front, back}
 
@@ -74,7 +74,7 @@ module _ (image : Image) (function : ℕ) where
         operand_from a types.Int from (stands_expr a from ints.0 (front image function from (expr_code a) (to_type a types.Int) left)) left,
         operand_from b types.Int p (stands_expr b p ints.1 (front image function p (expr_code b) (to_type b types.Int) right)) right,
         computed (binary_instruction operator) _ 2 q _ (binary_computes operator) (back image function p (operand_code b types.Int) last rest)
-        (omega (arith, length-append (operand_code a types.Int) behind, length-append (operand_code b types.Int) last)),
+            (omega (arith, length-append (operand_code a types.Int) behind, length-append (operand_code b types.Int) last)),
       )
 
   pub stands_int : (e : Plain) (from : ℕ) → HasInts e → HasCode image function from (operand_code e types.Int) → StandsOperand image function (as_int e) from (from + length (operand_code e types.Int))

@@ -1,5 +1,5 @@
 -- The instructions that stand for a unit that is built, by cases on the unit: what is evaluated follows [expr.unary.op], [expr.mul] to [expr.or], [conv.integral] and [conv.bool] of the C++ draft and [basic.contract.eval] of P2900R14; the instructions and their numbers are this project's own.
-use Rattle.std.specs.Prelude.{ℕ, ◌+◌, Bool, true, false, if◌then◌else◌, List, [], ◌∷◌, ◌++◌, length, Option, Some, None}
+use Rattle.std.specs.Prelude.{ℕ, ◌+◌, if◌then◌else◌, List, [], ◌∷◌, ◌++◌, length, Option, Some, None}
 use Rattle.cx_code.specs.declared.code.Instruction.{Instruction}
 use Rattle.cx_code.specs.declared.violation.Semantic.{Semantic}
 use Rattle.cx_code.specs.declared.violation.Semantic.TheVariants.{Ignore, Observe, Enforce, QuickEnforce}

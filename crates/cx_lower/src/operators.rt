@@ -50,7 +50,11 @@ pub fn binary_instruction(operator: BinaryOperator) -> Instruction
 fn computes(code: u8, numbers: IntegerType) -> Instruction
     ensures { result ≡ computes code numbers }
 {
-    Instruction { code, a: type_number(numbers), b: 0 }
+    Instruction {
+        code,
+        a: type_number(numbers),
+        b: 0,
+    }
 }
 
 /// The comparison with this number, which is of any two numbers.

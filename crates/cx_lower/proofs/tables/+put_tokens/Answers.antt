@@ -16,7 +16,15 @@ returns-in_ok-put_tokens-in-Unary t c =
 pub returns-in_ok-put_tokens-in-Binary-2 : goal.returns-in_ok-put_tokens-in-Binary-2
 returns-in_ok-put_tokens-in-Binary-2 t c =
     rw (
-      c.in-Binary.is, c.in_ok-put_tokens-in-Binary-2.ensures, c.deref-in-Binary-2.ensures, c.in_ok-append-in-Binary-3.ensures.ok, c.in_ok-append-in-Binary-2.ensures.ok, c.as_bytes-in-Binary.ensures.value, c.binary_word.ensures,
-      c.in_ok-append-in-Binary.ensures.ok, c.in_ok-put_tokens-in-Binary.ensures, c.deref-in-Binary.ensures,
+      c.in-Binary.is,
+      c.in_ok-put_tokens-in-Binary-2.ensures,
+      c.deref-in-Binary-2.ensures,
+      c.in_ok-append-in-Binary-3.ensures.ok,
+      c.in_ok-append-in-Binary-2.ensures.ok,
+      c.as_bytes-in-Binary.ensures.value,
+      c.binary_word.ensures,
+      c.in_ok-append-in-Binary.ensures.ok,
+      c.in_ok-put_tokens-in-Binary.ensures,
+      c.deref-in-Binary.ensures,
     )
     (between c.args.comment.now (binary_word c.in-Binary.operator) (plain c.in-Binary.left.value) (plain c.in-Binary.right.value))
