@@ -19,3 +19,4 @@ mod Following
 mod Starting
 mod Example
 mod LoopExample
+mod Stepping

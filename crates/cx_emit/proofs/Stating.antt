@@ -5,13 +5,13 @@ use Rattle.cx_code.specs.declared.operation.Operation.TheVariants as does
 use Rattle.cx_code.specs.declared.run.Value.{Value}
 use Rattle.cx_code.specs.State.{State}
 use Rattle.cx_core.specs.Words.{Definer}
-use Rattle.cx_core.specs.Tree.{scalar, Check, Expr, assign, Operand, value, Stmt, empty, expression, variable_declaration}
+use Rattle.cx_core.specs.Tree.{scalar, Check, Expr, assign, prefix_step, postfix_step, Operand, value, Stmt, empty, expression, variable_declaration}
 use Rattle.cx_core.specs.Program.{Program}
 use Rattle.cx_core.specs.Store as store
 use Rattle.cx_core.specs.Outcome as source
 use Rattle.cx_core.specs.Outcome.{on, over, Does, Nothing, nothing, after, either, gives, throws, current_frame}
 use Rattle.cx_core.specs.Leaving.{Calls, scope, full_expression}
-use Rattle.cx_core.specs.Operators.{assignment}
+use Rattle.cx_core.specs.Operators.{assignment, prefix_operation, postfix_operation}
 use Rattle.cx_core.specs.Statements.{Completion, on_to_next, return, completed, variable_of}
 use Rattle.cx_core.specs.Meaning.{expr, used, init, checked, result_stored, stmt}
 use Rattle.cx_simulation.specs.Machine.{begins_ahead}
@@ -29,9 +29,10 @@ use Rattle.cx_emit.proofs.Places.{all_kept}
 use Rattle.cx_emit.proofs.Expressions.{account, value_then, expr_follows, used_follows}
 use Rattle.cx_emit.proofs.Asserting.{Never, never_on, is_at_on, step_to, at}
 use Rattle.cx_emit.proofs.Evaluating.{check_follows, full_follows}
-use Rattle.cx_emit.proofs.Scopes.{IsIn, all_left, Reaches, Departs, departs_so, Carries, Completed, Departed, departed_in}
+use Rattle.cx_emit.proofs.Scopes.{IsReady, IsIn, all_left, Reaches, Departs, departs_so, Carries, Completed, Departed, departed_in}
 use Rattle.cx_emit.proofs.Ending.{of_completion, scope_follows}
 use Rattle.cx_emit.proofs.Storing.{full_changes, with_temporaries, Written, assign_follows}
+use Rattle.cx_emit.proofs.Stepping.{prefix_follows, postfix_follows}
 use Rattle.cx_emit.proofs.Declaring.{declaration_follows}
 use Rattle.cx_emit.proofs.Completing.{Stated, AllStated, completed_so, placed, written_there, given_there}
 
@@ -95,27 +96,33 @@ module _ (image : Image) (function : ℕ) (program : Program) (calls : Calls) (d
         []
         (λ v w is k s m a told. dropped p to h w k s m a told) n s m (i.ready).agrees told)
 
-    -- the place that an assignment gives is dropped without an instruction
-    assigned_follows : (a : Expr) (b : Operand) (from to : ℕ) → StandsDiscarded image function (assign a b) from to
+    -- the value of what stores one is dropped without an instruction
+    stored_follows : (part : Does store.Value) (from to : ℕ)
+        → ((n : ℕ) (s : source.State) (m : State) → IsReady image function s m → s.begins ≡ begins_ahead (image_step image) n (running_at m from [])
+        → Follows (image_step image) n s (running_at m from []) of_completion (λ (_ : store.Value) d t. Written image function to s m d t) (Never s m) (part s))
         → (first n : ℕ) (s : source.State) (m : State) → IsIn image function first now s m → s.begins ≡ begins_ahead (image_step image) n (running_at m from [])
         → Follows (image_step image) n s (running_at m from []) of_completion (λ (_ : Nothing) d t. Completed image function first (now ∷ around.scopes) now (λ c p. p ≡ to) s m on_to_next d t) (Never s m)
-        (either (full_expression program calls (assignment (expr program calls a) (used program calls b))) (λ _. gives nothing) throws s)
+        (either (full_expression program calls part) (λ _. gives nothing) throws s)
     unfolding either gives
-    assigned_follows a b from to st first n s m i told =
+    stored_follows part from to follows first n s m i told =
         follows_changes (image_step image) n s (running_at m from []) of_completion (λ (_ : store.Value) d t. Completed image function first (now ∷ around.scopes) now (λ c p. p ≡ to) s m on_to_next d t)
-        (λ (_ : Nothing) d t. Completed image function first (now ∷ around.scopes) now (λ c p. p ≡ to) s m on_to_next d t) (λ o. after o (λ _. gives nothing) throws) (full_expression program calls (assignment (expr program calls a) (used program calls b)) s)
+        (λ (_ : Nothing) d t. Completed image function first (now ∷ around.scopes) now (λ c p. p ≡ to) s m on_to_next d t) (λ o. after o (λ _. gives nothing) throws) (full_expression program calls part s)
         (λ answer trace. refl) (λ v t d g. (nothing, t, refl, refl, refl, refl, g))
-        (full_changes (image_step image) program calls (assignment (expr program calls a) (used program calls b)) n s (running_at m from []) of_completion (λ (_ : store.Value) d t. Written image function to (record s { temporaries = [] }) m d t)
+        (full_changes (image_step image) program calls part n s (running_at m from []) of_completion (λ (_ : store.Value) d t. Written image function to (record s { temporaries = [] }) m d t)
         (λ (_ : store.Value) d t. Completed image function first (now ∷ around.scopes) now (λ c p. p ≡ to) s m on_to_next d t)
         (λ _ t d g. (g.same_temporaries, written_there image function first around.scopes now to s [] m d t i g))
-        (assign_follows image function program calls a b from to st n (record s { temporaries = [] }) m (with_temporaries image function s m [] i.ready) told))
+        (follows n (record s { temporaries = [] }) m (with_temporaries image function s m [] i.ready) told))
 
     discarded_follows : (e : Expr) (from to : ℕ) → StandsDiscarded image function e from to
         → (first n : ℕ) (s : source.State) (m : State) → IsIn image function first now s m → s.begins ≡ begins_ahead (image_step image) n (running_at m from [])
         → Follows (image_step image) n s (running_at m from []) of_completion (λ (_ : Nothing) d t. Completed image function first (now ∷ around.scopes) now (λ c p. p ≡ to) s m on_to_next d t) (Never s m)
         (either (full_expression program calls (expr program calls e)) (λ _. gives nothing) throws s)
     unfolding expr
-    discarded_follows (assign a b) from to st = assigned_follows a b from to st
+    discarded_follows (assign a b) from to st = stored_follows (assignment (expr program calls a) (used program calls b)) from to (λ n s m r told. assign_follows image function program calls a b from to st n s m r told)
+    discarded_follows (prefix_step operator type a) from to st =
+        stored_follows (prefix_operation operator type (expr program calls a)) from to (λ n s m r told. prefix_follows image function operator type st.0 to st.2 program calls a from st.1 n s m r told)
+    discarded_follows (postfix_step operator type a) from to st =
+        stored_follows (postfix_operation operator type (expr program calls a)) from to (λ n s m r told. postfix_follows image function operator type st.0 to st.2 program calls a from st.1 n s m r told)
     discarded_follows e from to st = dropped_follows e from st.0 to st.1 st.2
 
     pub simple_follows : (a : Stmt) (from to : ℕ) → goes_on a ≡ true → StandsStmt image function around now a from to → GoesOnTo (behind a now) (stmt program calls a) from to

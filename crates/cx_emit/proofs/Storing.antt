@@ -25,14 +25,13 @@ use Rattle.cx_core.specs.Meaning.{expr, used}
 use Rattle.cx_core.proofs.Numbered.{numbered_with}
 use Rattle.cx_simulation.specs.Machine.{Progress, goes, halts, begins_ahead}
 use Rattle.cx_simulation.specs.ImageMachine.{progress, image_step}
-use Rattle.cx_simulation.specs.Parts.{Account, Follows, Steps}
+use Rattle.cx_simulation.specs.Parts.{Account, IsSum, Follows, Steps}
 use Rattle.cx_simulation.proofs.Parts.{follows_then, follows_less, follows_from, follows_unit, follows_step, told_on}
 use Rattle.cx_simulation.proofs.Changes.{follows_changes}
 use Rattle.cx_emit.specs.Values.{IsValue}
 use Rattle.cx_emit.specs.Configuration.{running_at, Has, AreKept, Gives}
 use Rattle.cx_emit.specs.Statements.{StandsDiscarded}
 use Rattle.cx_emit.specs.Laws.{of_operand, of_expression}
-use Rattle.cx_emit.proofs.Places.{kept_on}
 use Rattle.cx_emit.proofs.Expressions.{account, expr_follows, used_follows}
 use Rattle.cx_emit.proofs.Asserting.{Never, never_on, at}
 use Rattle.cx_emit.proofs.Objects.{IsAlive, StoresAs, keeps, stored_alike, written_keeps, alive_with}
@@ -162,6 +161,23 @@ module _ (image : Image) (function : ℕ) where
             subst (Writes (values.Address a.object a.leaf)) (sym (ends_so (ended (Undefined kind)) s.trace))
             (λ other. record { event = None; halts_so = stores None f ∙ ap (λ k. halts (Undefined k) None) (sym same); noted_so = refl })
 
+  -- a value, and then a part that stores one
+  pub stores_then : {B : Type 0} (first second both : Account) (left : Does store.Value) (next : store.Value → Does B) (from mid to : ℕ) (before below : List Value) → IsSum first second both → (n : ℕ) (s : source.State) (m : State) → IsReady image function s m
+      → Follows (image_step image) n s (running_at m from before) first (Gives function mid below s m) (Never s m) (left s)
+      → ((v : store.Value) (w : Value) → IsValue v w → (k : ℕ) (t : source.State) (d : State) → IsReady image function t d → t.begins ≡ begins_ahead (image_step image) k (running_at d mid (w ∷ below))
+      → Follows (image_step image) k t (running_at d mid (w ∷ below)) second (λ (_ : B) e u. Written to t d e u) (Never t d) (next v t))
+      → Follows (image_step image) n s (running_at m from before) both (λ (_ : B) d t. Written to s m d t) (Never s m) (either left next throws s)
+  stores_then {B} first second both left next from mid to before below sum n s m r follows more =
+      follows_then (image_step image) n s (running_at m from before) first second both (Gives function mid below s m) (λ (_ : B) d t. Written to s m d t) (Never s m) left next sum follows behind
+    where
+      behind : (v : store.Value) (t : source.State) (d : State) (k : ℕ) → Gives function mid below s m v d t → t.begins ≡ begins_ahead (image_step image) k d
+          → Follows (image_step image) k t d second (λ (_ : B) d t. Written to s m d t) (Never s m) (next v t)
+      behind v t d k g told =
+          subst (λ d. Follows (image_step image) k t d second (λ (_ : B) d t. Written to s m d t) (Never s m) (next v t)) (sym g.is_there)
+          (follows_less (image_step image) k t (running_at g.machine mid (g.value ∷ below)) second second (λ (_ : B) d u. Written to t g.machine d u) (λ (_ : B) d t. Written to s m d t) (Never t g.machine) (Never s m) (next v t)
+          (record { goes_on = omega arith; left = omega arith; in_hand = omega arith }) (λ _ x y b. written_on to s t y m g.machine x g.kept b) (λ x y z f. f)
+          (more v g.value g.same_value k t g.machine (kept_ready image function s t m g.machine r g.kept g.agrees) (told ∙ ap (begins_ahead (image_step image) k) g.is_there)))
+
   -- ---- assignments
 
   module _ (program : Program) (calls : Calls) where
@@ -184,11 +200,13 @@ module _ (image : Image) (function : ℕ) where
     pub assign_follows : (a : Expr) (b : Operand) (from to : ℕ) → StandsDiscarded image function (assign a b) from to → (n : ℕ) (s : source.State) (m : State) → IsReady image function s m → s.begins ≡ begins_ahead (image_step image) n (running_at m from [])
         → Follows (image_step image) n s (running_at m from []) of_completion (λ (_ : store.Value) d t. Written to s m d t) (Never s m) (assignment (expr program calls a) (used program calls b) s)
     assign_follows a b from to st n s m r told =
-        follows_then (image_step image) n s (running_at m from []) of_operand (account 40 0 1) of_completion (Gives function st.0 [] s m) (λ (_ : store.Value) d t. Written to s m d t) (Never s m)
-        (used program calls b) (λ v. either (expr program calls a) (λ place. either spend (λ _. either (stored place v) (λ _. gives place) throws) throws) throws)
-        (record { goes_on = omega arith; left_first = omega arith; left_second = omega arith; in_hand = omega arith })
+        stores_then of_operand (account 40 0 1) of_completion (used program calls b) (λ v. either (expr program calls a) (λ place. either spend (λ _. either (stored place v) (λ _. gives place) throws) throws) throws) from st.0 to [] []
+        (record { goes_on = omega arith; left_first = omega arith; left_second = omega arith; in_hand = omega arith }) n s m r
         (used_follows image function Never never_on program calls b from st.0 st.3 n [] s m r.agrees told)
-        (λ v t d k g told. placed v t d k g told)
+        (λ v w is k t d r told. stores_then of_expression (account 30 0 1) (account 40 0 1) (expr program calls a) (λ place. either spend (λ _. either (stored place v) (λ _. gives place) throws) throws) st.0 st.1 to (w ∷ []) (w ∷ [])
+        (record { goes_on = omega arith; left_first = omega arith; left_second = omega arith; in_hand = omega arith }) k t d r
+        (expr_follows image function Never never_on program calls a st.0 st.1 st.4 k (w ∷ []) t d r.agrees told)
+        (λ place x same i u e r told. swapped v place u e w x i r is same told))
       where
         -- the two values stand in the wrong order
         swapped : (v place : store.Value) (t : source.State) (e : State) (w x : Value) (k : ℕ) → IsReady image function t e → IsValue v w → IsValue place x → t.begins ≡ begins_ahead (image_step image) k (running_at e st.1 (x ∷ w ∷ []))
@@ -201,23 +219,3 @@ module _ (image : Image) (function : ℕ) where
             (follows_unit (image_step image) (k - 1) t (running_at e st.2 (w ∷ x ∷ [])) (account 31 0 0) (λ (_ : store.Value) d u. Written to t e d u) (Never t e) (either (stored place v) (λ _. gives place) throws) (omega arith)
             (told_on (image_step image) k (running_at e st.1 (x ∷ w ∷ [])) (running_at e st.2 (w ∷ x ∷ [])) None t.begins t.begins goes_so told refl)
             (λ budget. assigned_steps t e budget st.2 to ready st.6 v place w x is same))
-
-        -- from where the machine came to
-        from_there : (v place : store.Value) (t : source.State) (d : State) (k : ℕ) (u : source.State) (e : State) (w : Value) → IsReady image function u e → AreKept s m u e → IsValue v w → Gives function st.1 (w ∷ []) u e place d t → t.begins ≡ begins_ahead (image_step image) k d
-            → Follows (image_step image) k t d (account 30 0 1) (λ (_ : store.Value) d t. Written to s m d t) (Never s m) (either spend (λ _. either (stored place v) (λ _. gives place) throws) throws t)
-        from_there v place t d k u e w ready kept is g told =
-            let all : AreKept s m t g.machine = kept_on s u t m e g.machine kept g.kept in
-            subst (λ d. Follows (image_step image) k t d (account 30 0 1) (λ (_ : store.Value) d t. Written to s m d t) (Never s m) (either spend (λ _. either (stored place v) (λ _. gives place) throws) throws t)) (sym g.is_there)
-            (follows_less (image_step image) k t (running_at g.machine st.1 (g.value ∷ w ∷ [])) (account 30 0 1) (account 30 0 1) (λ (_ : store.Value) d u. Written to t g.machine d u) (λ (_ : store.Value) d t. Written to s m d t) (Never t g.machine) (Never s m) _
-            (record { goes_on = omega arith; left = omega arith; in_hand = omega arith }) (λ _ x y b. written_on to s t y m g.machine x all b) (λ x y z f. f)
-            (swapped v place t g.machine w g.value k (kept_ready image function u t e g.machine ready g.kept g.agrees) is g.same_value (told ∙ ap (begins_ahead (image_step image) k) g.is_there)))
-
-        placed : (v : store.Value) (t : source.State) (d : State) (k : ℕ) → Gives function st.0 [] s m v d t → t.begins ≡ begins_ahead (image_step image) k d
-            → Follows (image_step image) k t d (account 40 0 1) (λ (_ : store.Value) d t. Written to s m d t) (Never s m) (either (expr program calls a) (λ place. either spend (λ _. either (stored place v) (λ _. gives place) throws) throws) throws t)
-        placed v t d k g told =
-            subst (λ d. Follows (image_step image) k t d (account 40 0 1) (λ (_ : store.Value) d t. Written to s m d t) (Never s m) (either (expr program calls a) (λ place. either spend (λ _. either (stored place v) (λ _. gives place) throws) throws) throws t)) (sym g.is_there)
-            (follows_then (image_step image) k t (running_at g.machine st.0 (g.value ∷ [])) of_expression (account 30 0 1) (account 40 0 1) (Gives function st.1 (g.value ∷ []) t g.machine) (λ (_ : store.Value) d t. Written to s m d t) (Never s m)
-            (expr program calls a) (λ place. either spend (λ _. either (stored place v) (λ _. gives place) throws) throws)
-            (record { goes_on = omega arith; left_first = omega arith; left_second = omega arith; in_hand = omega arith })
-            (expr_follows image function Never never_on program calls a st.0 st.1 st.4 k (g.value ∷ []) t g.machine g.agrees (told ∙ ap (begins_ahead (image_step image) k) g.is_there))
-            (λ place u e i f told. from_there v place u e i t g.machine g.value (kept_ready image function s t m g.machine r g.kept g.agrees) g.kept g.same_value f told))

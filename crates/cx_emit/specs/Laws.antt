@@ -44,7 +44,7 @@ module _ (image : Image) (function : ℕ) (outer : List (ℕ × Region)) where
       (n : ℕ) (operands : List Value) (s : source.State) (m : State) → Agrees function s m → s.begins ≡ begins_ahead (image_step image) n (running_at m from operands)
       → Follows (image_step image) n s (running_at m from operands) account (λ _ d t. IsAt function to operands s m d t) (Flies image function outer s m) (part s)
 
--- expressions and operands without calls, names and reads, whatever undefined behaviour of arithmetic they come to
+-- expressions and operands without calls of functions of the program, whatever undefined behaviour they come to
 abbrev pub ExpressionsAreFollowed : Type 0
 ExpressionsAreFollowed =
     (image : Image) (function : ℕ) (outer : List (ℕ × Region)) (program : Program) (calls : Calls) (e : Expr) (from to : ℕ)

@@ -1,11 +1,15 @@
 -- Which code stands for statements: a relation between a tree and the places where its code begins and where it goes on, by recursion on the tree. This is this project's own.
-use Rattle.std.specs.Prelude.{◌≡◌, ℕ, suc, ◌<◌, Bool, true, false, List, [], ◌∷◌, Some, length}
+use Rattle.std.specs.Prelude.{◌≡◌, ℕ, suc, ◌<◌, pos, Bool, true, false, List, [], ◌∷◌, Some, length}
 use Rattle.cx_code.specs.declared.image.Image.{Image}
 use Rattle.cx_code.specs.declared.operation.Operation.TheVariants as does
+use Rattle.cx_core.specs.declared.number.IntegerType.{IntegerType}
+use Rattle.cx_core.specs.declared.number.BinaryOperator.{BinaryOperator}
 use Rattle.cx_core.specs.Words.{Definer}
-use Rattle.cx_core.specs.Tree.{scalar, Expr, assign, Operand, value, Stmt, Stmts, empty, expression, variable_declaration, block, if_else, while_loop, for_loop, Condition, always, while, break, continue, contract_assert, return_value, done, next}
+use Rattle.cx_core.specs.Number.{promoted}
+use Rattle.cx_core.specs.Tree.{scalar, Expr, assign, prefix_step, postfix_step, Operand, value, Stmt, Stmts, empty, expression, variable_declaration, block, if_else, while_loop, for_loop, Condition, always, while, break, continue, contract_assert, return_value, done, next}
 use Rattle.cx_emit.specs.Configuration.{operation_at, Has}
-use Rattle.cx_emit.specs.Stands.{StandsExpr, StandsOperand}
+use Rattle.cx_emit.specs.Operations.{scalar_of, binary_operation}
+use Rattle.cx_emit.specs.Stands.{HasSome, StandsNumberLoad, StandsExpr, StandsOperand}
 use Rattle.cx_emit.specs.Checks.{GoesOn, StandsTruth, StandsCheck}
 use Rattle.cx_emit.specs.Scopes.{Loop, Surroundings, inside, in_loop, IsUnused, slot_count, StandsEnds, StandsExit}
 
@@ -27,9 +31,17 @@ goes_on (variable_declaration slot type init) = true
 goes_on other = false
 
 module _ (image : Image) (function : ℕ) where
-  -- the value of an expression is dropped; an assignment leaves none
+  -- 1 is added to what an object holds, or subtracted, from its place on the operands
+  abbrev pub StandsStep : BinaryOperator → IntegerType → ℕ → ℕ → Type 0
+  StandsStep operator type from to =
+      (p q r t u v : ℕ) × Has image function from does.Duplicate p × StandsNumberLoad image function (Some type) p q × Has image function q (does.Convert (scalar_of (promoted type))) r
+      × Has image function r (does.Push (pos 1)) t × HasSome image function t (binary_operation operator (promoted type)) u × Has image function u (does.Convert (scalar_of type)) v × Has image function v does.Store to
+
+  -- the value of an expression is dropped; what stores one leaves none
   abbrev pub StandsDiscarded : Expr → ℕ → ℕ → Type 0
   StandsDiscarded (assign a b) from to = (p q r : ℕ) × StandsOperand image function b from p × StandsExpr image function a p q × Has image function q does.Swap r × Has image function r does.Store to
+  StandsDiscarded (prefix_step operator type a) from to = (p : ℕ) × StandsExpr image function a from p × StandsStep operator type p to
+  StandsDiscarded (postfix_step operator type a) from to = (p : ℕ) × StandsExpr image function a from p × StandsStep operator type p to
   StandsDiscarded e from to = (p : ℕ) × StandsExpr image function e from p × Has image function p does.Discard to
 
   -- an object is made in a slot of its own, and its value is stored

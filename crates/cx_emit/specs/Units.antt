@@ -1,4 +1,4 @@
--- Which image stands for a program of one function without variables, `main`: this project's own.
+-- Which image stands for a program of one function, `main`: this project's own.
 use Rattle.std.specs.Prelude.{◌≡◌, ℕ, pos, Bool, true, false, [], Some, slice_get, ◌+◌, length}
 use Rattle.cx_code.specs.declared.image.Image.{Image}
 use Rattle.cx_code.specs.declared.image.Function.{Function}
@@ -55,8 +55,8 @@ pub record HaveGlobals (image : Image) (program : Program) : Type 0 where
   pub same_store : IsStore (globals_from 1 program.globals) (with_globals nothing_made image.globals)
   pub same_next : (with_globals nothing_made image.globals).next ≡ length program.globals + 1
 
--- an image that stands for a well made program of a `main` without variables, whose contract assertions are evaluated
--- once each or not at all, has only runs that the program permits
+-- an image that stands for a well made program of `main` alone, whose contract assertions are evaluated once each or not at
+-- all, has only runs that the program permits
 abbrev pub ImagesOfMainAreFaithful : Type 0
 ImagesOfMainAreFaithful =
     (image : Image) (program : Program) (b : Stmts) → IsWellMade program → HaveDefaultHandler image program → IsMain program b → StandsMain image b → HaveGlobals image program

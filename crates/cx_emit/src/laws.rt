@@ -1,9 +1,10 @@
 ghost use Rattle.cx_emit.specs.Units.{ImagesOfMainAreFaithful};
 ghost use Rattle.cx_emit.specs.Laws.{ChecksAreFollowed, ExpressionsAreFollowed, OperandsAreFollowed};
 
-/// Where code stands for an expression without calls and names, the machine follows its meaning there: it comes to the end
-/// of the code with the value on top of the operands, or both end alike by the same undefined behaviour. Each unit of the
-/// budget has an instruction, and at most 16 instructions fewer than a unit pays for are left over.
+/// Where code stands for an expression without calls of the program's own functions, the machine follows its meaning
+/// there: it comes to the end of the code with the value on top of the operands, or both end alike by the same undefined
+/// behaviour. Each unit of the budget has an instruction, and at most 16 instructions fewer than a unit pays for are left
+/// over.
 ///
 /// Source: this project's own, for [expr.mul] to [expr.or] and [expr.unary.op] of the C++ draft.
 pub fn expressions_are_followed()
@@ -27,11 +28,12 @@ pub fn checks_are_followed()
     ensures { ChecksAreFollowed }
 {}
 
-/// An image that stands for a well made program whose `main` declares nothing has only runs that the program permits:
-/// blocks, expression statements, contract assertions that are evaluated once or not at all, and `return`, of the
-/// expressions of the other laws. The image's first function calls another one, which has the code of the body.
+/// An image that stands for a well made program of `main` alone has only runs that the program permits: blocks, variables of
+/// scalar type, `if`, loops with `break` and `continue`, `return` with a value, assignments and other expressions whose value
+/// is discarded, and contract assertions that are evaluated once or not at all, of the expressions of the other laws. The
+/// image's first function calls another one, which has the code of the body.
 ///
-/// Source: this project's own, for [basic.start.main] of the C++ draft and [basic.contract.eval] of P2900R14.
+/// Source: this project's own, for [stmt] and [basic.start.main] of the C++ draft and [basic.contract.eval] of P2900R14.
 pub fn images_of_main_are_faithful()
     ensures { ImagesOfMainAreFaithful }
 {}

@@ -1,16 +1,20 @@
 -- The comment of a compound expression, by those of its parts.
 use Rattle.std.proofs.Common.{◌≡◌, ℕ, List, [], ◌∷◌, ◌++◌, refl, sym, ap, ◌∙◌, append_assoc}
 use Rattle.std.specs.List.{join_with_byte}
-use Rattle.cx_front.specs.Plain.{Plain, number, parens, less}
+use Rattle.cx_front.specs.Plain.{Plain, number, truth, parens}
+use Rattle.cx_front.specs.Plain as plain
+use Rattle.cx_front.specs.Spell.{truth_word, unary_word, binary_word}
 use Rattle.cx_typed.specs.Comment.{words_of, comment_of}
 
 -- an expression has a first token
 first_token : (e : Plain) → (first : List ℕ) × ((rest : List (List ℕ)) × (words_of e ≡ first ∷ rest))
 first_token (number value word) = (word, ([], refl))
+first_token (truth b) = (truth_word b, ([], refl))
 first_token (parens e) = (_, (_, refl))
-first_token (less a b) =
+first_token (plain.unary operator e) = (unary_word operator, (words_of e, refl))
+first_token (plain.binary operator a b) =
     let first = first_token a in
-    (first.0, (_, ap (λ (tokens : List (List ℕ)). tokens ++ (60 ∷ []) ∷ words_of b) first.1.1))
+    (first.0, (_, ap (λ (tokens : List (List ℕ)). tokens ++ binary_word operator ∷ words_of b) first.1.1))
 
 -- two lists of tokens, of which the second has a first one
 joined : (x : List ℕ) (xs : List (List ℕ)) (y : List ℕ) (ys : List (List ℕ))
@@ -37,6 +41,10 @@ paren before e =
     let inner : join_with_byte 32 ((40 ∷ []) ∷ (words_of e ++ (41 ∷ []) ∷ [])) ≡ 40 ∷ 32 ∷ (comment_of e ++ (32 ∷ 41 ∷ [])) = after_paren e in
     rw inner (simp append_assoc)
 
--- what is written for `a < b` after some bytes
-pub compared : (before : List ℕ) (a b : Plain) → ((before ++ comment_of a) ++ (32 ∷ 60 ∷ 32 ∷ [])) ++ comment_of b ≡ before ++ join_with_byte 32 (words_of a ++ ((60 ∷ []) ∷ words_of b))
-compared before a b = rw (after_expr a (60 ∷ []) (words_of b), before_expr b (60 ∷ [])) (simp append_assoc)
+-- what is written for an operator and its operand
+pub prefixed : (before word : List ℕ) (e : Plain) → ((before ++ word) ++ (32 ∷ [])) ++ comment_of e ≡ before ++ join_with_byte 32 (word ∷ words_of e)
+prefixed before word e = rw (before_expr e word) (simp append_assoc)
+
+-- what is written for an operator between its operands
+pub between : (before word : List ℕ) (a b : Plain) → ((((before ++ comment_of a) ++ (32 ∷ [])) ++ word) ++ (32 ∷ [])) ++ comment_of b ≡ before ++ join_with_byte 32 (words_of a ++ (word ∷ words_of b))
+between before word a b = rw (after_expr a word (words_of b), before_expr b word) (simp append_assoc)

@@ -14,24 +14,35 @@ use Rattle.cx_code.specs.Reached.{operation_at}
 use Rattle.cx_code.specs.Rules.{IsInRange, HasPlaces, PassesArguments, HasDropper}
 use Rattle.cx_core.specs.declared.number.IntegerType.{IntegerType}
 use Rattle.cx_core.specs.declared.number.IntegerType.TheVariants as types
-use Rattle.cx_front.specs.Plain.{Plain, PlainCheck, PlainUnit, number, parens, less}
-use Rattle.cx_typed.specs.Typed.{type_of}
-use Rattle.cx_lower.specs.Code.{less_than, conversion_code, expr_code, int_code, violated_code, verdict_code, check_code, checks_code, return_code, value_code, body_code}
+use Rattle.cx_core.specs.declared.number.BinaryOperator.{BinaryOperator}
+use Rattle.cx_core.specs.declared.number.BinaryOperator.TheVariants as operators
+use Rattle.cx_core.specs.declared.number.UnaryOperator.{UnaryOperator}
+use Rattle.cx_core.specs.declared.number.UnaryOperator.TheVariants as unary
+use Rattle.cx_front.specs.Plain.{Plain, PlainCheck, PlainUnit, number, truth, parens}
+use Rattle.cx_front.specs.Plain as plain
+use Rattle.cx_typed.specs.Typed.{unary_type, type_of, conversion}
+use Rattle.cx_lower.specs.Code.{unary_instruction, binary_instruction, conversion_code, to_type, expr_code, operand_code, violated_code, verdict_code, check_code, checks_code, return_code, value_code, body_code}
 use Rattle.cx_lower.proofs.Leads.{some_code}
 
--- an operation of a body: its assertion and the place that it jumps to are below these
+-- an operation of a body: it has no slots, calls, globals, texts and exceptions, and its assertion and the place that it jumps to are below these
 abbrev pub IsOurs : ℕ → ℕ → Option Operation → Type 0
-IsOurs assertions places (Some (does.Push n)) = Unit {0}
-IsOurs assertions places (Some does.Less) = Unit {0}
-IsOurs assertions places (Some (does.Convert scalar)) = Unit {0}
+IsOurs assertions places None = ⊥
+IsOurs assertions places (Some (does.Get slot)) = ⊥
+IsOurs assertions places (Some (does.Set slot)) = ⊥
+IsOurs assertions places (Some (does.Make leaves slot)) = ⊥
 IsOurs assertions places (Some (does.Jump to)) = to < places
+IsOurs assertions places (Some (does.JumpZero to)) = to < places
 IsOurs assertions places (Some (does.JumpNonzero to)) = to < places
-IsOurs assertions places (Some does.Return) = Unit {0}
+IsOurs assertions places (Some (does.Call callee count)) = ⊥
+IsOurs assertions places (Some (does.Global index)) = ⊥
+IsOurs assertions places (Some (does.TextOf index)) = ⊥
 IsOurs assertions places (Some (does.Begin assertion party semantic)) = assertion < assertions
 IsOurs assertions places (Some (does.Verdict assertion)) = assertion < assertions
 IsOurs assertions places (Some (does.Violate assertion mode semantic)) = assertion < assertions
-IsOurs assertions places (Some does.ContractEnd) = Unit {0}
-IsOurs assertions places operation = ⊥
+IsOurs assertions places (Some (does.Throw of)) = ⊥
+IsOurs assertions places (Some does.Resume) = ⊥
+IsOurs assertions places (Some (does.Destroyed class)) = ⊥
+IsOurs assertions places (Some operation) = Unit {0}
 
 module _ (n places : ℕ) where
   abbrev pub EachIsOurs : List Instruction → Type 0
@@ -41,18 +52,34 @@ module _ (n places : ℕ) where
   each_append [] b p q = q
   each_append (i ∷ a) b p q = (p.0, each_append a b p.1 q)
 
-  conversion_ours : (type : IntegerType) → EachIsOurs (conversion_code type)
+  conversion_ours : (to : Option IntegerType) → EachIsOurs (conversion_code to)
   unfolding operation_of
-  conversion_ours types.Int = tt
-  conversion_ours type = (tt, tt)
+  conversion_ours None = tt
+  conversion_ours (Some types.Bool) = (tt, tt)
+  conversion_ours (Some type) = (tt, tt)
+
+  unary_ours : (operator : UnaryOperator) → EachIsOurs (unary_instruction operator ∷ [])
+  unfolding operation_of
+  unary_ours unary.Minus = (tt, tt)
+  unary_ours operator = (tt, tt)
+
+  binary_ours : (operator : BinaryOperator) → EachIsOurs (binary_instruction operator ∷ [])
+  unfolding operation_of
+  binary_ours operators.Multiply = (tt, tt)
+  binary_ours operator = (tt, tt)
+
+  operand_ours : (e : Plain) (type : IntegerType) → EachIsOurs (expr_code e) → EachIsOurs (operand_code e type)
+  operand_ours e type each = each_append (expr_code e) (to_type e type) each (conversion_ours (conversion (type_of e) type))
 
   expr_ours : (e : Plain) → EachIsOurs (expr_code e)
   unfolding operation_of
   expr_ours (number value word) = (tt, tt)
+  expr_ours (truth b) = (tt, tt)
   expr_ours (parens e) = expr_ours e
-  expr_ours (less a b) =
-      each_append (int_code a) (int_code b ++ less_than ∷ []) (each_append (expr_code a) (conversion_code (type_of a)) (expr_ours a) (conversion_ours (type_of a)))
-      (each_append (int_code b) (less_than ∷ []) (each_append (expr_code b) (conversion_code (type_of b)) (expr_ours b) (conversion_ours (type_of b))) (tt, tt))
+  expr_ours (plain.unary operator e) = each_append (operand_code e (unary_type operator)) (unary_instruction operator ∷ []) (operand_ours e (unary_type operator) (expr_ours e)) (unary_ours operator)
+  expr_ours (plain.binary operator a b) =
+      let last = binary_instruction operator ∷ [] in
+      each_append (operand_code a types.Int) (operand_code b types.Int ++ last) (operand_ours a types.Int (expr_ours a)) (each_append (operand_code b types.Int) last (operand_ours b types.Int (expr_ours b)) (binary_ours operator))
 
   violated_ours : (semantic : Semantic) (index : ℕ) → index < n → EachIsOurs (violated_code semantic index)
   unfolding operation_of
@@ -83,9 +110,10 @@ module _ (n places : ℕ) where
   value_ours : (start : ℕ) (value : Plain) → start + length (value_code start value) ≤ places → EachIsOurs (value_code start value)
   unfolding operation_of
   value_ours start value within =
-      let exit = start + length (int_code value) in
-      let target : exit < places = omega (arith, length-append (int_code value) (return_code exit)) in
-      each_append (int_code value) (return_code exit) (each_append (expr_code value) (conversion_code (type_of value)) (expr_ours value) (conversion_ours (type_of value))) (tt, (tt, (target, tt)))
+      let code = operand_code value types.Int in
+      let exit = start + length code in
+      let target : exit < places = omega (arith, length-append code (return_code exit)) in
+      each_append code (return_code exit) (operand_ours value types.Int (expr_ours value)) (tt, (tt, (target, tt)))
 
   -- what holds of each of our operations holds of the code
   of_each : (P : Option Operation → Type 0) (code : List Instruction) → ((o : Option Operation) → IsOurs n places o → P o) → EachIsOurs code → AllByRecursion (λ (i : Instruction). P (operation_of i)) code
@@ -123,7 +151,7 @@ in_range image places (Some operation) ours = tt
 
 pub has_places : (n : ℕ) (function : Function) (o : Option Operation) → IsOurs n (length function.code) o → HasPlaces function o
 has_places n function (Some (does.Jump to)) ours = ours
-has_places n function (Some (does.JumpZero to)) ours = absurd ours
+has_places n function (Some (does.JumpZero to)) ours = ours
 has_places n function (Some (does.JumpNonzero to)) ours = ours
 has_places n function (Some (does.Get slot)) ours = absurd ours
 has_places n function (Some (does.Set slot)) ours = absurd ours

@@ -1,5 +1,5 @@
 -- The code of a body runs from no operand on, and each place of it leads to a place of it.
-use Rattle.std.proofs.Common.{◌≡◌, ◌⊎◌, ℕ, zero, suc, ◌+◌, ◌-◌, ◌<◌, ◌≤◌, List, [], ◌∷◌, ◌++◌, length, Some, true, refl, sym, ap, subst, ◌∙◌, arith, append_assoc, length-append, inl, inr}
+use Rattle.std.proofs.Common.{◌≡◌, ◌⊎◌, ℕ, zero, suc, ◌+◌, ◌-◌, ◌<◌, ◌≤◌, List, [], ◌∷◌, ◌++◌, length, Option, Some, None, true, refl, sym, ap, subst, ◌∙◌, arith, append_assoc, length-append, inl, inr}
 use Rattle.std.specs.List.{AllByRecursion}
 use Rattle.std.proofs.lemmas.Bool.{cases_lt}
 use Rattle.cx_code.specs.declared.code.Instruction.{Instruction}
@@ -7,7 +7,6 @@ use Rattle.cx_code.specs.declared.image.Image.{Image}
 use Rattle.cx_code.specs.declared.image.Function.{Function}
 use Rattle.cx_code.specs.declared.operation.Operation.{Operation}
 use Rattle.cx_code.specs.declared.operation.Operation.TheVariants as does
-use Rattle.cx_code.specs.declared.operation.Scalar.TheVariants as scalars
 use Rattle.cx_code.specs.declared.violation.Semantic.{Semantic}
 use Rattle.cx_code.specs.declared.violation.Semantic.TheVariants.{Ignore, Observe, Enforce, QuickEnforce}
 use Rattle.cx_code.specs.declared.violation.DetectionMode.TheVariants.{PredicateFalse}
@@ -15,11 +14,13 @@ use Rattle.cx_code.specs.Operation.{operation_of}
 use Rattle.cx_code.specs.Reached.{operation_at, taken_count, depth_after, Follows}
 use Rattle.cx_core.specs.declared.number.IntegerType.{IntegerType}
 use Rattle.cx_core.specs.declared.number.IntegerType.TheVariants as types
-use Rattle.cx_front.specs.Plain.{Plain, PlainCheck, PlainUnit, number, parens, less}
+use Rattle.cx_emit.specs.Operations.{scalar_of}
+use Rattle.cx_front.specs.Plain.{Plain, PlainCheck, PlainUnit, number, truth, parens}
+use Rattle.cx_front.specs.Plain as plain
 use Rattle.cx_typed.specs.Comment.{words_of}
-use Rattle.cx_typed.specs.Typed.{type_of}
-use Rattle.cx_lower.specs.Code.{push, less_than, to_int, jump, returns, violate, contract_end, conversion_code, expr_code, int_code, violated_code, verdict_code, check_code, checks_code, return_code, value_code, body_code}
-use Rattle.cx_lower.proofs.Operations.{less_is, to_int_is, jump_is, returns_is, begin_is, violate_is, contract_end_is}
+use Rattle.cx_typed.specs.Typed.{unary_type, type_of, conversion}
+use Rattle.cx_lower.specs.Code.{push, convert, unary_instruction, binary_instruction, jump, returns, violate, contract_end, conversion_code, to_type, expr_code, operand_code, violated_code, verdict_code, check_code, checks_code, return_code, value_code, body_code}
+use Rattle.cx_lower.proofs.Operations.{Computes, convert_is, unary_computes, binary_computes, jump_is, returns_is, begin_is, violate_is, contract_end_is}
 use Rattle.cx_lower.proofs.Limits.{IsShortCheck, IsShortUnit}
 use Rattle.cx_lower.proofs.Depths.{Runs, Runs-append, expr_runs, int_runs, check_runs}
 use Rattle.cx_lower.proofs.Reached.{depth_by, depth_along, steps_on, along_back, GoesOn, OneTarget, OneTarget-append, LeadsFrom, goes_on_in, leads_check, at_front, at_back}
@@ -54,19 +55,29 @@ push_goes : (n : ℕ) → AlwaysGoes (push n)
 unfolding operation_of AlwaysGoes
 push_goes n operation e = goes_if _ operation e (λ p q f. f)
 
-conversion_goes : (type : IntegerType) → EachGoes (conversion_code type)
-conversion_goes types.Int = tt
-conversion_goes type = (goes_as to_int (does.Convert scalars.Int) to_int_is (λ p q f. f), tt)
+conversion_goes : (to : Option IntegerType) → EachGoes (conversion_code to)
+conversion_goes None = tt
+conversion_goes (Some type) = (goes_as (convert type) (does.Convert (scalar_of type)) (convert_is type) (λ p q f. f), tt)
+
+computing_goes : (i : Instruction) (asked : Option Operation) (taken : ℕ) → Computes i asked taken → EachGoes (i ∷ [])
+computing_goes i asked taken c = (goes_as i c.operation c.is c.goes, tt)
+
+operand_goes : (e : Plain) (type : IntegerType) → EachGoes (expr_code e) → EachGoes (operand_code e type)
+operand_goes e type each = EachGoes-append (expr_code e) (to_type e type) each (conversion_goes (conversion (type_of e) type))
 
 expr_goes : (e : Plain) → EachGoes (expr_code e)
 expr_goes (number value word) = (push_goes value, tt)
+expr_goes (truth b) = (push_goes _, tt)
 expr_goes (parens e) = expr_goes e
-expr_goes (less a b) =
-    EachGoes-append (int_code a) (int_code b ++ less_than ∷ []) (EachGoes-append (expr_code a) (conversion_code (type_of a)) (expr_goes a) (conversion_goes (type_of a)))
-    (EachGoes-append (int_code b) (less_than ∷ []) (EachGoes-append (expr_code b) (conversion_code (type_of b)) (expr_goes b) (conversion_goes (type_of b))) (goes_as less_than does.Less less_is (λ p q f. f), tt))
+expr_goes (plain.unary operator e) =
+    EachGoes-append (operand_code e (unary_type operator)) (unary_instruction operator ∷ []) (operand_goes e (unary_type operator) (expr_goes e)) (computing_goes (unary_instruction operator) _ 1 (unary_computes operator))
+expr_goes (plain.binary operator a b) =
+    let last = binary_instruction operator ∷ [] in
+    EachGoes-append (operand_code a types.Int) (operand_code b types.Int ++ last) (operand_goes a types.Int (expr_goes a))
+    (EachGoes-append (operand_code b types.Int) last (operand_goes b types.Int (expr_goes b)) (computing_goes (binary_instruction operator) _ 2 (binary_computes operator)))
 
-int_goes : (e : Plain) → EachGoes (int_code e)
-int_goes e = EachGoes-append (expr_code e) (conversion_code (type_of e)) (expr_goes e) (conversion_goes (type_of e))
+int_goes : (e : Plain) → EachGoes (operand_code e types.Int)
+int_goes e = operand_goes e types.Int (expr_goes e)
 
 violated_goes : (semantic : Semantic) (index : ℕ) → EachGoes (violated_code semantic index)
 violated_goes Ignore index = tt
@@ -128,7 +139,7 @@ return_leads exit (suc (suc zero)) operation place next at follows =
 return_leads exit (suc (suc (suc j))) operation place next at follows = absurd cc
 
 pub some_code : (before : List Instruction) (behind : ℕ) (value : Plain) → 0 < length (before ++ value_code behind value)
-some_code before behind value = omega (arith, length-append before (value_code behind value), length-append (int_code value) (return_code (behind + length (int_code value))))
+some_code before behind value = omega (arith, length-append before (value_code behind value), length-append (operand_code value types.Int) (return_code (behind + length (operand_code value types.Int))))
 
 -- a function that gives a value takes it for `return`
 module _ (image : Image) (function : Function) (gives : function.result ≡ true) where
@@ -140,7 +151,7 @@ module _ (image : Image) (function : Function) (gives : function.result ≡ true
       (does.Return, returns_is, omega (arith, taken), omega arith, subst (λ (d : ℕ). Runs image function d (push 0 ∷ jump exit ∷ []) 1) (sym none) (_, refl, omega arith, omega arith, (does.Jump exit, refl, omega arith, omega arith, refl)))
 
   value_runs : (start : ℕ) (value : Plain) → length (words_of value) ≤ 4096 → Runs image function 0 (value_code start value) 1
-  value_runs start value le = Runs-append image function 0 1 1 (int_code value) (return_code (start + length (int_code value))) (int_runs image function value le) (return_runs (start + length (int_code value)))
+  value_runs start value le = Runs-append image function 0 1 1 (operand_code value types.Int) (return_code (start + length (operand_code value types.Int))) (int_runs image function value le) (return_runs (start + length (operand_code value types.Int)))
 
   return_depth : (exit : ℕ) → depth_along image function 1 (return_code exit) 2 ≡ 1
   unfolding operation_of
@@ -148,7 +159,7 @@ module _ (image : Image) (function : Function) (gives : function.result ≡ true
 
   leads_value : (base : ℕ) (value : Plain) → length (words_of value) ≤ 4096 → LeadsFrom image function base (value_code base value)
   leads_value base value le p operation next at follows =
-      let code = int_code value in
+      let code = operand_code value types.Int in
       let exit = base + length code in
       let tail = return_code exit in
       let runs = int_runs image function value le in

@@ -1,20 +1,21 @@
 -- How many assertions a small unit has, and how long its code is.
-use Rattle.std.proofs.Common.{◌≡◌, ℕ, ◌+◌, ◌*◌, ◌≤◌, List, [], ◌∷◌, ◌++◌, length, map, All, refl, arith, length-append, codes}
+use Rattle.std.proofs.Common.{◌≡◌, ℕ, ◌+◌, ◌*◌, ◌≤◌, List, [], ◌∷◌, ◌++◌, length, map, Option, Some, None, All, refl, arith, length-append, codes}
 use Rattle.std.specs.List.{flat_map, AllByRecursion}
 use Rattle.cx_code.specs.declared.violation.Semantic.{Semantic}
 use Rattle.cx_code.specs.declared.violation.Semantic.TheVariants.{Ignore, Observe, Enforce, QuickEnforce}
 use Rattle.cx_core.specs.declared.number.IntegerType.{IntegerType}
 use Rattle.cx_core.specs.declared.number.IntegerType.TheVariants as types
 use Rattle.cx_front.specs.declared.source.Expr.{Expr}
-use Rattle.cx_front.specs.declared.source.Expr.TheVariants.{Number, Paren', Less'}
+use Rattle.cx_front.specs.declared.source.Expr.TheVariants.{Number, Truth, Paren', Unary', Binary'}
 use Rattle.cx_front.specs.declared.source.Check.{Check}
 use Rattle.cx_front.specs.declared.source.SourceUnit.{SourceUnit}
-use Rattle.cx_front.specs.Plain.{Plain, PlainCheck, PlainUnit, number, parens, less, plain, plain_check, plain_unit}
-use Rattle.cx_front.specs.Spell.{spell, spell_check, spell_unit}
+use Rattle.cx_front.specs.Plain.{Plain, PlainCheck, PlainUnit, number, truth, parens, plain, plain_check, plain_unit}
+use Rattle.cx_front.specs.Plain as built
+use Rattle.cx_front.specs.Spell.{binary_word, spell, spell_check, spell_unit}
 use Rattle.cx_front.proofs.Sizes.{length_unit}
 use Rattle.cx_typed.specs.Comment.{words_of, comment_of}
-use Rattle.cx_typed.specs.Typed.{type_of}
-use Rattle.cx_lower.specs.Code.{less_than, conversion_code, expr_code, int_code, violated_code, verdict_code, check_code, checks_code, return_code, value_code, body_code}
+use Rattle.cx_typed.specs.Typed.{unary_type, type_of, conversion}
+use Rattle.cx_lower.specs.Code.{unary_instruction, binary_instruction, conversion_code, to_type, expr_code, operand_code, violated_code, verdict_code, check_code, checks_code, return_code, value_code, body_code}
 use Rattle.cx_lower.specs.Small.{IsSmall, IsSmallCheck}
 use Rattle.cx_lower.proofs.Stands.{each_rest}
 
@@ -35,24 +36,34 @@ pub record IsShortUnit (semantic : Semantic) (unit : PlainUnit) : Type 0 where
 
 length_words : (e : Expr) → length (words_of (plain e)) ≡ length (spell e)
 length_words (Number value word) = refl
+length_words (Truth b) = refl
 length_words (Paren' p e) = omega (arith, length_words e, length-append (words_of (plain e)) (codes ")" ∷ []), length-append (spell e) (codes ")" ∷ []))
-length_words (Less' p a q b) =
-    omega (arith, length_words a, length_words b, length-append (words_of (plain a)) (codes "<" ∷ words_of (plain b)), length-append (spell a) (codes "<" ∷ spell b))
+length_words (Unary' operator p e) = omega (arith, length_words e)
+length_words (Binary' operator p a q b) =
+    omega (arith, length_words a, length_words b, length-append (words_of (plain a)) (binary_word operator ∷ words_of (plain b)), length-append (spell a) (binary_word operator ∷ spell b))
 
-short_conversion : (type : IntegerType) → length (conversion_code type) ≤ 1
-short_conversion types.Int = omega arith
-short_conversion type = omega arith
+short_conversion : (to : Option IntegerType) → length (conversion_code to) ≤ 1
+short_conversion None = omega arith
+short_conversion (Some type) = omega arith
 
--- an instruction for each number and each comparison, and a conversion of each comparison
+short_operand : (e : Plain) (type : IntegerType) → length (operand_code e type) ≤ length (expr_code e) + 1
+short_operand e type = omega (arith, short_conversion (conversion (type_of e) type), length-append (expr_code e) (to_type e type))
+
+-- an instruction for each literal and each operator, and a conversion of each operand
 short_expr : (e : Plain) → length (expr_code e) + 1 ≤ 2 * length (words_of e)
 short_expr (number value word) = omega arith
+short_expr (truth b) = omega arith
 short_expr (parens e) = omega (arith, short_expr e, length-append (words_of e) (codes ")" ∷ []))
-short_expr (less a b) =
-    let behind = int_code b ++ less_than ∷ [] in
-    omega (arith, short_expr a, short_expr b, short_conversion (type_of a), short_conversion (type_of b), length-append (int_code a) behind, length-append (int_code b) (less_than ∷ []), length-append (expr_code a) (conversion_code (type_of a)), length-append (expr_code b) (conversion_code (type_of b)), length-append (words_of a) (codes "<" ∷ words_of b))
+short_expr (built.unary operator e) =
+    let type = unary_type operator in
+    omega (arith, short_expr e, short_operand e type, length-append (operand_code e type) (unary_instruction operator ∷ []))
+short_expr (built.binary operator a b) =
+    let last = binary_instruction operator ∷ [] in
+    let behind = operand_code b types.Int ++ last in
+    omega (arith, short_expr a, short_expr b, short_operand a types.Int, short_operand b types.Int, length-append (operand_code a types.Int) behind, length-append (operand_code b types.Int) last, length-append (words_of a) (binary_word operator ∷ words_of b))
 
-short_int : (e : Plain) → length (int_code e) ≤ 2 * length (words_of e)
-short_int e = omega (arith, short_expr e, short_conversion (type_of e), length-append (expr_code e) (conversion_code (type_of e)))
+short_int : (e : Plain) → length (operand_code e types.Int) ≤ 2 * length (words_of e)
+short_int e = omega (arith, short_expr e, short_operand e types.Int)
 
 -- ---- assertions
 
@@ -99,10 +110,10 @@ is_short semantic unit small =
     let plain_checks = map plain_check unit.checks in
     let checks = checks_code semantic 0 0 plain_checks in
     let value = plain unit.value in
-    let exit = length checks + length (int_code value) in
+    let exit = length checks + length (operand_code value types.Int) in
     record {
       checks = omega (arith, few, words, few_checks unit.checks);
       each_check = short_checks unit.checks small.each_check (omega (arith, few, words));
       value = omega (arith, few, words);
-      code = omega (arith, few, words, short_code semantic 0 0 unit.checks, short_int value, length-append checks (value_code (length checks) value), length-append (int_code value) (return_code exit));
+      code = omega (arith, few, words, short_code semantic 0 0 unit.checks, short_int value, length-append checks (value_code (length checks) value), length-append (operand_code value types.Int) (return_code exit));
     }

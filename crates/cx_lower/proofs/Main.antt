@@ -1,10 +1,11 @@
 -- The image of a unit stands for the body of its typed program.
 use Rattle.std.proofs.Common.{◌≡◌, ℕ, ◌+◌, List, [], ◌++◌, length, inr, refl, subst, ◌∙◌, arith}
 use Rattle.cx_code.specs.declared.violation.Semantic.{Semantic}
+use Rattle.cx_core.specs.declared.number.IntegerType.TheVariants as types
 use Rattle.cx_front.specs.Plain.{PlainUnit}
 use Rattle.cx_emit.specs.Units.{StandsMain}
 use Rattle.cx_typed.specs.Typed.{UnitHasInts, body_of}
-use Rattle.cx_lower.specs.Code.{int_code, checks_code, return_code, body_code}
+use Rattle.cx_lower.specs.Code.{operand_code, checks_code, return_code, body_code}
 use Rattle.cx_lower.specs.Tables.{main_function, body_function, image_of}
 use Rattle.cx_lower.proofs.Operations.{push_is, jump_is, call_is, returns_is}
 use Rattle.cx_lower.proofs.Parts.{HasCode, front, back, from_places}
@@ -20,7 +21,7 @@ unfolding image_of
 stands_main name semantic unit ints =
     let image = image_of name semantic unit in
     let checks = checks_code semantic 0 0 unit.checks in
-    let value = int_code unit.value in
+    let value = operand_code unit.value types.Int in
     let start = length checks in
     let exit = start + length value in
     let whole = has_body name semantic unit in

@@ -1,16 +1,20 @@
 -- The unit of a list of few tokens is small.
-use Rattle.std.proofs.Common.{ℕ, zero, suc, ◌*◌, ◌≤◌, List, [], ◌∷◌, ◌++◌, length, All, ap, arith, length-append, codes, lit≤}
+use Rattle.std.proofs.Common.{ℕ, zero, suc, ◌*◌, ◌≤◌, List, [], ◌∷◌, ◌++◌, length, Bool, true, false, All, ap, arith, length-append, codes, lit≤}
 use Rattle.std.specs.Prelude.{slice_get, unwrap_or}
 use Rattle.std.specs.Option.{option_map}
 use Rattle.std.specs.List.{flat_map, join_with_byte, AllByRecursion}
 use Rattle.std.proofs.lemmas.List.Elements.{All-from_recursion}
 use Rattle.cx_includes.specs.declared.assembled.Assembled.{Assembled}
 use Rattle.cx_includes.specs.declared.assembled.SourceFile.{SourceFile}
+use Rattle.cx_core.specs.declared.number.BinaryOperator.{BinaryOperator}
+use Rattle.cx_core.specs.declared.number.BinaryOperator.TheVariants as operators
+use Rattle.cx_core.specs.declared.number.UnaryOperator.{UnaryOperator}
+use Rattle.cx_core.specs.declared.number.UnaryOperator.TheVariants as unary
 use Rattle.cx_front.specs.declared.source.Expr.{Expr}
-use Rattle.cx_front.specs.declared.source.Expr.TheVariants.{Number, Paren', Less'}
+use Rattle.cx_front.specs.declared.source.Expr.TheVariants.{Number, Truth, Paren', Unary', Binary'}
 use Rattle.cx_front.specs.declared.source.Check.{Check}
 use Rattle.cx_front.specs.Plain.{plain}
-use Rattle.cx_front.specs.Spell.{spell_check}
+use Rattle.cx_front.specs.Spell.{truth_word, unary_word, binary_word, spell_check}
 use Rattle.cx_front.proofs.Sizes.{HasLiterals, IsMadeCheck, length_unit, made}
 use Rattle.cx_typed.specs.Comment.{words_of}
 use Rattle.cx_typed.specs.Laws.{BuiltUnitsHaveInts}
@@ -28,10 +32,24 @@ joined : (v w : List (List ℕ)) → AllByRecursion IsShortWord v → AllByRecur
 joined [] w p q = q
 joined (x ∷ v) w p q = (p.0, joined v w p.1 q)
 
+short_truth : (b : Bool) → IsShortWord (truth_word b)
+short_truth true = lit≤ tt
+short_truth false = lit≤ tt
+
+short_unary : (operator : UnaryOperator) → IsShortWord (unary_word operator)
+short_unary unary.Minus = lit≤ tt
+short_unary operator = lit≤ tt
+
+short_binary : (operator : BinaryOperator) → IsShortWord (binary_word operator)
+short_binary operators.Multiply = lit≤ tt
+short_binary operator = lit≤ tt
+
 short_words : (e : Expr) → HasLiterals e → AllByRecursion IsShortWord (words_of (plain e))
 short_words (Number n word) shaped = (short_literal word shaped.0 (omega (arith, shaped.1, shaped.2)), tt)
+short_words (Truth b) shaped = (short_truth b, tt)
 short_words (Paren' p e) shaped = (lit≤ tt, joined (words_of (plain e)) (codes ")" ∷ []) (short_words e shaped) (lit≤ tt, tt))
-short_words (Less' p a q b) shaped = joined (words_of (plain a)) (codes "<" ∷ words_of (plain b)) (short_words a shaped.0) (lit≤ tt, short_words b shaped.1)
+short_words (Unary' operator p e) shaped = (short_unary operator, short_words e shaped)
+short_words (Binary' operator p a q b) shaped = joined (words_of (plain a)) (binary_word operator ∷ words_of (plain b)) (short_words a shaped.0) (short_binary operator, short_words b shaped.1)
 
 short_join : (words : List (List ℕ)) → AllByRecursion IsShortWord words → length (join_with_byte 32 words) ≤ 32 * length words
 short_join [] each = omega arith

@@ -1,18 +1,23 @@
 -- Where the code of an expression, an assertion or a body stands, it stands for its typed tree.
-use Rattle.std.proofs.Common.{◌≡◌, ℕ, suc, ◌+◌, List, [], ◌∷◌, ◌++◌, length, Some, All, inl, inr, refl, ap, subst, ◌∙◌, arith, length-append}
+use Rattle.std.proofs.Common.{◌≡◌, ℕ, suc, ◌+◌, List, [], ◌∷◌, ◌++◌, length, Option, Some, None, All, inl, inr, refl, sym, ap, subst, ◌∙◌, arith, length-append}
 use Rattle.cx_code.specs.declared.image.Image.{Image}
+use Rattle.cx_code.specs.declared.code.Instruction.{Instruction}
+use Rattle.cx_code.specs.declared.operation.Operation.{Operation}
 use Rattle.cx_code.specs.declared.operation.Operation.TheVariants as does
 use Rattle.cx_core.specs.declared.number.IntegerType.{IntegerType}
 use Rattle.cx_core.specs.declared.number.IntegerType.TheVariants as types
 use Rattle.cx_core.specs.Words.{Definer, Semantic, Ignore, Observe, Enforce, QuickEnforce}
-use Rattle.cx_front.specs.Plain.{Plain, PlainCheck, number, parens, less}
+use Rattle.cx_core.specs.Tree.{operand}
+use Rattle.cx_front.specs.Plain.{Plain, PlainCheck, number, truth, parens}
+use Rattle.cx_front.specs.Plain as plain
 use Rattle.cx_emit.specs.Configuration.{operation_at}
-use Rattle.cx_emit.specs.Stands.{StandsConversion, StandsExpr, StandsOperand}
+use Rattle.cx_emit.specs.Stands.{HasSome, StandsConversion, StandsExpr, StandsOperand}
 use Rattle.cx_emit.specs.Checks.{IsAssertion, StandsViolated, StandsEvaluation, StandsCheck}
+use Rattle.cx_emit.specs.Scopes.{around_body}
 use Rattle.cx_emit.specs.Statements.{StandsStmt, StandsStmts}
-use Rattle.cx_typed.specs.Typed.{HasInts, type_of, conversion_to_int, typed, as_int, assertion_of, check_of, statements_from}
-use Rattle.cx_lower.specs.Code.{less_than, conversion_code, expr_code, int_code, violated_code, verdict_code, evaluation_code, check_code, checks_code}
-use Rattle.cx_lower.proofs.Operations.{push_is, less_is, to_bool_is, to_int_is, jump_nonzero_is, begin_is, verdict_is, violate_is, contract_end_is}
+use Rattle.cx_typed.specs.Typed.{HasInts, unary_type, type_of, conversion, typed, as_int, assertion_of, check_of, statements_from}
+use Rattle.cx_lower.specs.Code.{unary_instruction, binary_instruction, conversion_code, to_type, expr_code, operand_code, violated_code, verdict_code, evaluation_code, check_code, checks_code}
+use Rattle.cx_lower.proofs.Operations.{Computes, push_is, push_truth_is, convert_is, unary_computes, binary_computes, jump_nonzero_is, begin_is, verdict_is, violate_is, contract_end_is}
 use Rattle.cx_lower.proofs.Parts.{HasCode, front, back}
 
 -- the image's assertions from an index on are those of the source from an ordinal on
@@ -26,39 +31,54 @@ each_rest P x xs each k d lt = each (suc k) d (omega arith)
 module _ (image : Image) (function : ℕ) where
   -- ---- expressions
 
-  converted : (type : IntegerType) (from : ℕ) → HasCode image function from (conversion_code type) → StandsConversion image function (conversion_to_int type) from (from + length (conversion_code type))
-  converted types.Int from h = omega arith
-  converted type from h = record { here = h.0 ∙ to_int_is; next = refl }
+  converted : (to : Option IntegerType) (from : ℕ) → HasCode image function from (conversion_code to) → StandsConversion image function to from (from + length (conversion_code to))
+  converted None from h = omega arith
+  converted (Some type) from h = record { here = h.0 ∙ convert_is type; next = refl }
 
-  int_from : (e : Plain) (from : ℕ) → StandsExpr image function (typed e) from (from + length (expr_code e)) → HasCode image function from (int_code e) → StandsOperand image function (as_int e) from (from + length (int_code e))
+  computed : (i : Instruction) (asked : Option Operation) (taken from to : ℕ) → Computes i asked taken → HasCode image function from (i ∷ []) → to ≡ from + 1 → HasSome image function from asked to
+  computed i asked taken from to c h next = subst (λ (o : Option Operation). HasSome image function from o to) (sym c.is_asked) (record { here = h.0 ∙ c.is; next = next })
+
+  operand_from : (e : Plain) (type : IntegerType) (from : ℕ) → StandsExpr image function (typed e) from (from + length (expr_code e)) → HasCode image function from (operand_code e type)
+      → StandsOperand image function (operand None (conversion (type_of e) type) (typed e)) from (from + length (operand_code e type))
   unfolding StandsExpr
-  int_from e from stands h =
+  operand_from e type from stands h =
       let mid = from + length (expr_code e) in
-      let to : mid + length (conversion_code (type_of e)) ≡ from + length (int_code e) = omega (arith, length-append (expr_code e) (conversion_code (type_of e))) in
-      let conversion = converted (type_of e) mid (back image function from (expr_code e) (conversion_code (type_of e)) h) in
-      (mid, mid, stands, refl, subst (λ (n : ℕ). StandsConversion image function (conversion_to_int (type_of e)) mid n) to conversion)
+      let to : mid + length (to_type e type) ≡ from + length (operand_code e type) = omega (arith, length-append (expr_code e) (to_type e type)) in
+      let conversion_stands = converted (conversion (type_of e) type) mid (back image function from (expr_code e) (to_type e type) h) in
+      (mid, mid, stands, refl, subst (λ (n : ℕ). StandsConversion image function (conversion (type_of e) type) mid n) to conversion_stands)
 
   pub stands_expr : (e : Plain) (from : ℕ) → HasInts e → HasCode image function from (expr_code e) → StandsExpr image function (typed e) from (from + length (expr_code e))
   unfolding StandsExpr
   stands_expr (number value word) from ints h = inl (record { here = h.0 ∙ push_is value ints; next = refl })
+  stands_expr (truth b) from ints h = inl (record { here = h.0 ∙ push_truth_is b; next = refl })
   stands_expr (parens e) from ints h = stands_expr e from ints h
-  stands_expr (less a b) from ints h =
-      let p = from + length (int_code a) in
-      let q = p + length (int_code b) in
-      let behind = int_code b ++ less_than ∷ [] in
-      let left = front image function from (int_code a) behind h in
-      let right = back image function from (int_code a) behind h in
-      let second = front image function p (int_code b) (less_than ∷ []) right in
-      let last = back image function p (int_code b) (less_than ∷ []) right in (
+  stands_expr (plain.unary operator e) from ints h =
+      let type = unary_type operator in
+      let last = unary_instruction operator ∷ [] in
+      let p = from + length (operand_code e type) in
+      let code = front image function from (operand_code e type) last h in (
+        p,
+        operand_from e type from (stands_expr e from ints (front image function from (expr_code e) (to_type e type) code)) code,
+        computed (unary_instruction operator) _ 1 p _ (unary_computes operator) (back image function from (operand_code e type) last h) (omega (arith, length-append (operand_code e type) last)),
+      )
+  stands_expr (plain.binary operator a b) from ints h =
+      let p = from + length (operand_code a types.Int) in
+      let q = p + length (operand_code b types.Int) in
+      let last = binary_instruction operator ∷ [] in
+      let behind = operand_code b types.Int ++ last in
+      let left = front image function from (operand_code a types.Int) behind h in
+      let rest = back image function from (operand_code a types.Int) behind h in
+      let right = front image function p (operand_code b types.Int) last rest in (
         p,
         q,
-        int_from a from (stands_expr a from ints.0 (front image function from (expr_code a) (conversion_code (type_of a)) left)) left,
-        int_from b p (stands_expr b p ints.1 (front image function p (expr_code b) (conversion_code (type_of b)) second)) second,
-        record { here = last.0 ∙ less_is; next = omega (arith, length-append (int_code a) behind, length-append (int_code b) (less_than ∷ [])) },
+        operand_from a types.Int from (stands_expr a from ints.0 (front image function from (expr_code a) (to_type a types.Int) left)) left,
+        operand_from b types.Int p (stands_expr b p ints.1 (front image function p (expr_code b) (to_type b types.Int) right)) right,
+        computed (binary_instruction operator) _ 2 q _ (binary_computes operator) (back image function p (operand_code b types.Int) last rest)
+            (omega (arith, length-append (operand_code a types.Int) behind, length-append (operand_code b types.Int) last)),
       )
 
-  pub stands_int : (e : Plain) (from : ℕ) → HasInts e → HasCode image function from (int_code e) → StandsOperand image function (as_int e) from (from + length (int_code e))
-  stands_int e from ints h = int_from e from (stands_expr e from ints (front image function from (expr_code e) (conversion_code (type_of e)) h)) h
+  pub stands_int : (e : Plain) (from : ℕ) → HasInts e → HasCode image function from (operand_code e types.Int) → StandsOperand image function (as_int e) from (from + length (operand_code e types.Int))
+  stands_int e from ints h = operand_from e types.Int from (stands_expr e from ints (front image function from (expr_code e) (to_type e types.Int) h)) h
 
   -- ---- assertions
 
@@ -87,7 +107,7 @@ module _ (image : Image) (function : ℕ) where
         mid + 1 + 1,
         mid + 1 + 1 + 1,
         record { here = h.0 ∙ begin_is semantic index; next = refl },
-        (mid, (mid, mid, predicate, refl, refl), record { here = rest.0 ∙ to_bool_is; next = refl }),
+        (mid, (mid, mid, predicate, refl, refl), record { here = rest.0 ∙ convert_is types.Bool; next = refl }),
         record { here = rest.1.0 ∙ verdict_is index; next = refl },
         record { here = jumps; next = refl },
         subst (λ (n : ℕ). StandsViolated image function index semantic (mid + 1 + 1 + 1) n) end (stands_violated semantic index (mid + 1 + 1 + 1) rest.1.1.1),
@@ -102,12 +122,13 @@ module _ (image : Image) (function : ℕ) where
 
   -- the assertion statements from this place on, and then the value from the place behind them, before the exit
   pub stands_statements : (exit end : ℕ) (semantic : Semantic) (ordinal index from behind : ℕ) (checks : List PlainCheck) (value : Plain) → All (λ (check : PlainCheck). HasInts check.predicate) checks → HasInts value → AreAssertions image index ordinal checks
-      → HasCode image function from (checks_code semantic from index checks) → behind ≡ from + length (checks_code semantic from index checks) → HasCode image function behind (int_code value) → exit ≡ behind + length (int_code value)
-      → StandsStmts image function exit (statements_from semantic ordinal checks value) from end
+      → HasCode image function from (checks_code semantic from index checks) → behind ≡ from + length (checks_code semantic from index checks) → HasCode image function behind (operand_code value types.Int) → exit ≡ behind + length (operand_code value types.Int)
+      → StandsStmts image function (around_body exit) [] (statements_from semantic ordinal checks value) from end
   unfolding StandsStmt
   stands_statements exit end semantic ordinal index from behind [] value each ints are h is v leaves =
       let here : behind ≡ from = omega (arith, is) in
-      (end, (behind + length (int_code value), subst (λ (n : ℕ). StandsOperand image function (as_int value) n (behind + length (int_code value))) here (stands_int value behind ints v), inl leaves), refl)
+      let p = behind + length (operand_code value types.Int) in
+      (end, (p, subst (λ (n : ℕ). StandsOperand image function (as_int value) n p) here (stands_int value behind ints v), (p, refl, inl leaves)), refl)
   stands_statements exit end semantic ordinal index from behind (check ∷ checks) value each ints are h is v leaves =
       let first = check_code semantic from index check.predicate in
       let next = from + length first in

@@ -1,21 +1,18 @@
 ghost use Rattle.std.specs.Prelude.{◌≡◌, ℕ, ◌+◌, ◌^◌, ◌<◌, ◌≤◌, [], ◌∷◌, ◌++◌, length, map, IfOk, OnOk};
 ghost use Rattle.cx_front.specs.Plain.{plain, plain_check, plain_unit};
-ghost use Rattle.cx_typed.specs.Typed.{type_of};
-ghost use Rattle.cx_lower.specs.Code.{instruction, call, returns, number_of, conversion_code, expr_code, int_code, violated_code, verdict_code, check_code, checks_code, return_code, body_code};
+ghost use Rattle.cx_typed.specs.Typed.{unary_type, binary_type, type_of, conversion};
+ghost use Rattle.cx_lower.specs.Code.{instruction, call, returns, number_of, conversion_code, expr_code, operand_code, violated_code, verdict_code, check_code, checks_code, return_code, body_code};
 ghost use Rattle.cx_lower.specs.Small.{IsSmall};
 
+use crate::operators::{binary_instruction, convert, unary_instruction};
 use cx_code::{Instruction, Semantic};
-use cx_core::IntegerType;
+use cx_core::{BinaryOperator, IntegerType, UnaryOperator};
 use cx_front::{Check, Expr, SourceUnit};
 use cx_outside::{Items, NoMemory};
 use std::alloc::Global;
 
 // The numbers of the machine's instructions that are used.
 const PUSH: u8 = 1;
-
-const LESS: u8 = 30;
-
-const CONVERT: u8 = 34;
 
 const JUMP: u8 = 35;
 
@@ -33,10 +30,6 @@ const VIOLATE: u8 = 46;
 
 const CONTRACT_END: u8 = 48;
 
-/// The number of the type `bool` in an instruction.
-const BOOL: u32 = 1;
-/// The number of the type `int`.
-const INT: u32 = 3;
 /// The number of a violation whose predicate was false, to which that of the semantic is added.
 const PREDICATE_FALSE: u32 = 8;
 
@@ -61,7 +54,7 @@ pub fn body_code(
 {
     let mut code = Items::new(alloc);
     put_checks(&mut code, semantic, unit.checks.items())?;
-    put_int(&mut code, &unit.value)?;
+    put_operand(&mut code, &unit.value, IntegerType::Int)?;
     let exit = code.items().len() as u32;
     put_return(&mut code, exit)?;
     Ok(code)
@@ -73,14 +66,41 @@ fn put(code: &mut Items<Instruction>, number: u8, a: u32, b: u32) -> Result<(), 
     code.push(Instruction { code: number, a, b })
 }
 
-/// A comparison is of type `bool`, and a number of type `int`.
+/// `true`, `false`, a comparison and what `!` computes are of type `bool`, and other values of type `int`.
 fn type_of(expr: &Expr) -> IntegerType
     ensures { result ≡ type_of (plain expr.now) }
 {
     match expr {
         Expr::Number(..) => IntegerType::Int,
+        Expr::Truth(..) => IntegerType::Bool,
         Expr::Paren(inner) => type_of(inner),
-        Expr::Less(..) => IntegerType::Bool,
+        Expr::Unary(operator, _) => unary_type(*operator),
+        Expr::Binary(operator, ..) => binary_type(*operator),
+    }
+}
+
+/// The type that an operator with one operand computes in.
+fn unary_type(operator: UnaryOperator) -> IntegerType
+    ensures { result ≡ unary_type operator }
+{
+    match operator {
+        UnaryOperator::Not => IntegerType::Bool,
+        UnaryOperator::Minus | UnaryOperator::Complement => IntegerType::Int,
+    }
+}
+
+/// The type of what an operator with two operands gives.
+fn binary_type(operator: BinaryOperator) -> IntegerType
+    ensures { result ≡ binary_type operator }
+{
+    match operator {
+        BinaryOperator::Less
+        | BinaryOperator::Greater
+        | BinaryOperator::LessEqual
+        | BinaryOperator::GreaterEqual
+        | BinaryOperator::Equal
+        | BinaryOperator::NotEqual => IntegerType::Bool,
+        _ => IntegerType::Int,
     }
 }
 
@@ -89,33 +109,43 @@ fn put_expr(code: &mut Items<Instruction>, expr: &Expr) -> Result<(), NoMemory>
 {
     match expr {
         Expr::Number(value, _) => put(code, PUSH, 0, *value),
+        Expr::Truth(truth) => put(code, PUSH, 0, if *truth { 1 } else { 0 }),
         Expr::Paren(inner) => put_expr(code, inner),
-        Expr::Less(left, right) => {
+        Expr::Unary(operator, operand) => {
+            put_expr(code, operand)?;
+            put_conversion(code, type_of(operand), unary_type(*operator))?;
+            code.push(unary_instruction(*operator))
+        }
+        Expr::Binary(operator, left, right) => {
             put_expr(code, left)?;
-            put_conversion(code, type_of(left))?;
+            put_conversion(code, type_of(left), IntegerType::Int)?;
             put_expr(code, right)?;
-            put_conversion(code, type_of(right))?;
-            put(code, LESS, 0, 0)
+            put_conversion(code, type_of(right), IntegerType::Int)?;
+            code.push(binary_instruction(*operator))
         }
     }
 }
 
-/// The conversion to `int` of a value of a type, where it isn't one already.
-fn put_conversion(code: &mut Items<Instruction>, from: IntegerType) -> Result<(), NoMemory>
-    ensures { OnOk result (code.new ≡ code.old ++ conversion_code from) }
+/// The conversion to a type of a value of another one, where it isn't of that type already.
+fn put_conversion(
+    code: &mut Items<Instruction>,
+    from: IntegerType,
+    to: IntegerType,
+) -> Result<(), NoMemory>
+    ensures { OnOk result (code.new ≡ code.old ++ conversion_code (conversion from to)) }
 {
-    match from {
-        IntegerType::Int => Ok(()),
-        _ => put(code, CONVERT, INT, 0),
+    match (from, to) {
+        (IntegerType::Int, IntegerType::Int) | (IntegerType::Bool, IntegerType::Bool) => Ok(()),
+        _ => code.push(convert(to)),
     }
 }
 
-/// An expression where an `int` is wanted.
-fn put_int(code: &mut Items<Instruction>, expr: &Expr) -> Result<(), NoMemory>
-    ensures { OnOk result (code.new ≡ code.old ++ int_code (plain expr.now)) }
+/// An expression where a value of a type is wanted.
+fn put_operand(code: &mut Items<Instruction>, expr: &Expr, to: IntegerType) -> Result<(), NoMemory>
+    ensures { OnOk result (code.new ≡ code.old ++ operand_code (plain expr.now) to) }
 {
     put_expr(code, expr)?;
-    put_conversion(code, type_of(expr))
+    put_conversion(code, type_of(expr), to)
 }
 
 fn put_checks(
@@ -164,7 +194,7 @@ fn put_verdict(
     ensures { OnOk result (code.new ≡ code.old ++ verdict_code semantic (length code.old) index) }
 {
     let next = code.items().len() as u32 + 3 + violated_length(semantic);
-    put(code, CONVERT, BOOL, 0)?;
+    code.push(convert(IntegerType::Bool))?;
     put(code, VERDICT, index, 0)?;
     put(code, JUMP_NONZERO, next, 0)?;
     put_violated(code, semantic, index)

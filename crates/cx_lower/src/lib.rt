@@ -4,7 +4,9 @@
 mod code;
 mod image;
 mod laws;
+mod operators;
 mod tables;
+mod words;
 
 pub use image::lower;
 pub use laws::built_units_are_small;

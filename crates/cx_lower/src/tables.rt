@@ -4,6 +4,7 @@ ghost use Rattle.cx_front.specs.Plain.{plain, plain_check};
 ghost use Rattle.cx_typed.specs.Comment.{comment_of};
 ghost use Rattle.cx_lower.specs.Tables.{comments_of, other_files, texts_of, entries_of};
 
+use crate::words::{binary_word, truth_word, unary_word};
 use cx_code::{Assertion, AssertionKind};
 use cx_front::{Check, Expr};
 use cx_outside::{Items, NoMemory, Text};
@@ -71,15 +72,24 @@ fn put_tokens(comment: &mut Text, expr: &Expr) -> Result<(), NoMemory>
 {
     match expr {
         Expr::Number(_, spelling) => comment.append(spelling.bytes()),
+        Expr::Truth(truth) => comment.append(truth_word(*truth).as_bytes()),
         Expr::Paren(inner) => {
             comment.append(b"( ")?;
             put_tokens(comment, inner)?;
             comment.append(b" )")?;
             Ok(())
         }
-        Expr::Less(left, right) => {
+        Expr::Unary(operator, operand) => {
+            comment.append(unary_word(*operator).as_bytes())?;
+            comment.append(b" ")?;
+            put_tokens(comment, operand)?;
+            Ok(())
+        }
+        Expr::Binary(operator, left, right) => {
             put_tokens(comment, left)?;
-            comment.append(b" < ")?;
+            comment.append(b" ")?;
+            comment.append(binary_word(*operator).as_bytes())?;
+            comment.append(b" ")?;
             put_tokens(comment, right)?;
             Ok(())
         }
