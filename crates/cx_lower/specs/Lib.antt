@@ -1,0 +1,4 @@
+pub mod Code
+pub mod Tables
+pub mod Small
+pub mod Laws
