@@ -73,6 +73,7 @@ module _ (image : Image) (bytes : List ℕ) (limit steps : ℕ) (report : Report
     unwritten = λ e. absurd (not_out cause (Failed err) has.has_cause e);
     runs = (bytes, record { read = λ some. read; front = has.front });
     output = (0, none);
+    lines = λ e. absurd (not_out cause (Failed err) has.has_cause e);
   }
 
   -- the output stopped the run after its last step
@@ -84,6 +85,7 @@ module _ (image : Image) (bytes : List ℕ) (limit steps : ℕ) (report : Report
     unwritten = λ e nothing. some e (run.output ∙ nothing);
     runs = (bytes, record { read = λ some. read; front = ([], run.again ∙ sym (append-nil report.journal)) });
     output = subst (TakesFront out.old out.new) run.output took;
+    lines = λ e. run.lines;
   }
 
   pub outcome : (ending now : Ending) → HasCome ending image bytes limit steps report err.old err.new (Failed err) → HasWritten ending now report.out out.old out.new (Failed out)
@@ -113,6 +115,7 @@ unstarted image limit run cause input out err journal ending steps front has oth
       unwritten = λ e. absurd (other e);
       runs = ([], record { read = λ some. absurd (omega (arith, steps)); front = rw (steps, journal) front });
       output = (0, none);
+      lines = λ e. absurd (other e);
     })
 
 pub read_cause : (cause : Cause) (input out err : Object) → IsReadCause cause (Failed input) → StopHasCause cause input out err

@@ -122,9 +122,8 @@ pub record Promises (words : List (List ℕ)) (seen : Seen) (report : Report) : 
   pub changes : (asked : Request) → request_of words ≡ Some asked → BothTold seen.files seen.files' (ChangesOnly asked.image)
   -- Where the answer comes before the put, no file changes.
   pub early : IsEarly report.answer → seen.files' ≡ seen.files
-  -- The closing line stands last on the error sink, where the answer has one and its write didn't fail, and is no fault of
-  -- the output.
-  pub closing_line : HasClosingLine report.answer → report.answer ≢ answers.WriteFault streams.Out → (before : List ℕ) × Appends seen.err seen.err' (before ++ closing_text report.answer report.run)
+  -- The closing line stands last on the error sink, where the answer has one and its write didn't fail.
+  pub closing_line : HasClosingLine report.answer → (before : List ℕ) × Appends seen.err seen.err' (before ++ closing_text report.answer report.run)
   -- Where no run began nothing else was written.
   pub closing_line_alone : report.run ≡ not_started → HasClosingLine report.answer → Appends seen.err seen.err' (closing_text report.answer report.run)
   -- The status is that of the answer.

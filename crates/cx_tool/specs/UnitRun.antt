@@ -26,6 +26,7 @@ pub record IsStopped (image : Image) (run : Run) (cause : Cause) (out err : Obje
   pub unwritten : cause ≡ causes.Out → written_out run.journal ≢ []
   pub front : BeginsWith (machine image [] run.steps).journal run.journal
   pub output : TakesFront out.old out.new (written_out run.journal)
+  pub lines : cause ≡ causes.Out → Appends err.old err.new (written image run.journal)
 
 -- the machine's run of the image without input, with the bytes of its events Out and the default handler's lines
 pub record IsWhole (image : Image) (limit : ℕ) (run : Run) (out err : Object) : Type 0 where

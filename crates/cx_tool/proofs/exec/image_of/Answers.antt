@@ -1,4 +1,5 @@
 use Rattle.std.proofs.Common.{arith, ap, length, inl, inr}
+use Rattle.cx_tool.proofs.Compiled.{still_compiled}
 use Rattle.cx_tool.proofs.Stops.{unit_told, none_told}
 use Rattle.cx_tool.proofs.exec.image_of.Goals as goal
 
@@ -6,7 +7,16 @@ pub unit_of-requires-clause-few : goal.unit_of-requires-clause-few
 unit_of-requires-clause-few c = omega (arith, ap length c.items.ensures)
 
 pub lower-requires-clause-small : goal.lower-requires-clause-small
-lower-requires-clause-small c = c.built_units_are_small.ensures c.args.list.now c.in-Some.unit c.requires.short (unit_told c.args.list.now c.in_ok-unit.field-0 c.in-Some.unit c.in-Some.is c.in_ok-unit.ensures) (omega (arith, ap length c.items.ensures))
+lower-requires-clause-small c = c.built_units_are_small.ensures c.args.list.now c.in-Some.unit c.requires.short (omega (arith, ap length c.items.ensures)) (unit_told c.args.list.now c.in_ok-unit.field-0 c.in-Some.unit c.in-Some.is c.in_ok-unit.ensures)
 
 pub returns-in-None-clause-cause : goal.returns-in-None-clause-cause
 returns-in-None-clause-cause c = elim c.unbuilt-in-None.ensures [ inl e ↦ inr (e, inl (none_told c.args.list.now c.in_ok-unit.field-0 c.in-None.is c.in_ok-unit.ensures)) | inr e ↦ inl e ]
+
+pub returns-in_ok-lower-in-Some-clause-compiled : goal.returns-in_ok-lower-in-Some-clause-compiled
+returns-in_ok-lower-in-Some-clause-compiled c =
+    still_compiled c.args.list.now c.args.semantic c.in_ok-lower-in-Some.field-0 c.verified.result c.verified.ensures.same (record {
+      valid = c.in_ok-lower-in-Some.ensures.valid;
+      unit = c.in-Some.unit;
+      spelled = unit_told c.args.list.now c.in_ok-unit.field-0 c.in-Some.unit c.in-Some.is c.in_ok-unit.ensures;
+      faithful = c.in_ok-lower-in-Some.ensures.faithful;
+    })

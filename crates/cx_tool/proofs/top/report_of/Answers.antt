@@ -50,9 +50,9 @@ returns-clause-ran g c =
 
 pub returns-clause-closing : goal.returns-clause-closing
 returns-clause-closing g c =
-    λ line other.
+    λ line.
     let same = same_answer _ _ _ c.close-answer.ensures.closed line in
-    let grew = c.decide-decided.ensures.grew (subst HasClosingLine (sym same) line) (λ fault. other (sym same ∙ fault)) in
+    let grew = c.decide-decided.ensures.grew (subst HasClosingLine (sym same) line) in
     (grew.0, Appends-then (g.E.Sink.taken c.args.err.now) (g.E.Sink.taken c.decide-decided.new.err) (g.E.Sink.taken c.close-answer.new.err) grew.0 (closing_text c.close-answer.result c.decide-decided.result.run) grew.1 (c.close-answer.ensures.line line))
 
 pub returns-clause-unbuilt : goal.returns-clause-unbuilt
