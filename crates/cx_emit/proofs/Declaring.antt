@@ -34,7 +34,8 @@ use Rattle.cx_emit.specs.Configuration.{running_at, AreNamed, Gives}
 use Rattle.cx_emit.specs.Scopes.{IsOther, IsUnused}
 use Rattle.cx_emit.specs.Statements.{StandsDeclaration}
 use Rattle.cx_emit.specs.Laws.{of_operand}
-use Rattle.cx_emit.proofs.Expressions.{account, used_follows}
+use Rattle.cx_emit.proofs.Valuing.{account}
+use Rattle.cx_emit.proofs.Expressions.{used_follows}
 use Rattle.cx_emit.proofs.Asserting.{Never, never_on, at}
 use Rattle.cx_emit.proofs.Objects.{IsAlive, made_alike}
 use Rattle.cx_emit.proofs.Scopes.{AreSame, AllSame, Lives, lives_on, IsReady, IsIn, Completed, kept_ready}

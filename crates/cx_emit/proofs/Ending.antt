@@ -23,7 +23,7 @@ use Rattle.cx_simulation.specs.Parts.{Account, Follows, StepsTo}
 use Rattle.cx_simulation.proofs.Parts.{follows_then, follows_either, follows_less, follows_gives, follows_from, follows_unit, follows_step, follows_changed, told_on}
 use Rattle.cx_emit.specs.Configuration.{running_at, Has}
 use Rattle.cx_emit.specs.Scopes.{StandsEnds}
-use Rattle.cx_emit.proofs.Expressions.{account}
+use Rattle.cx_emit.proofs.Valuing.{account}
 use Rattle.cx_emit.proofs.Asserting.{Never, at}
 use Rattle.cx_emit.proofs.Objects.{IsAlive, ended_alike, lives_alike, without_other}
 use Rattle.cx_emit.proofs.Scopes.{AllSame, all_same, Lives, lives_on, IsReady, IsIn, Completed, Departed}

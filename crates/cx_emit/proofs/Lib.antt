@@ -1,16 +1,19 @@
 mod Numbers
 mod Bits
 mod Places
+mod Valuing
 mod Operators
-mod Output
-mod Expressions
 mod Operands
+mod Output
+mod Deciding
+mod Expressions
 mod Asserting
 mod Evaluating
 mod Objects
 mod Scopes
 mod Ending
 mod Storing
+mod Stepping
 mod Declaring
 mod Completing
 mod Choosing
@@ -19,4 +22,3 @@ mod Following
 mod Starting
 mod Example
 mod LoopExample
-mod Stepping

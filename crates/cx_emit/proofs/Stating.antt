@@ -26,7 +26,8 @@ use Rattle.cx_emit.specs.Scopes.{Surroundings, inside, StandsExit}
 use Rattle.cx_emit.specs.Statements.{behind, goes_on, StandsDiscarded, StandsStmt}
 use Rattle.cx_emit.specs.Laws.{of_expression, of_operand, of_statement}
 use Rattle.cx_emit.proofs.Places.{all_kept}
-use Rattle.cx_emit.proofs.Expressions.{account, value_then, expr_follows, used_follows}
+use Rattle.cx_emit.proofs.Valuing.{account, value_then}
+use Rattle.cx_emit.proofs.Expressions.{expr_follows, used_follows}
 use Rattle.cx_emit.proofs.Asserting.{Never, never_on, is_at_on, step_to, at}
 use Rattle.cx_emit.proofs.Evaluating.{check_follows, full_follows}
 use Rattle.cx_emit.proofs.Scopes.{IsReady, IsIn, all_left, Reaches, Departs, departs_so, Carries, Completed, Departed, departed_in}
