@@ -6,7 +6,8 @@ ghost use Rattle.cx_emit.specs.Laws.{ChecksAreFollowed, ExpressionsAreFollowed, 
 /// behaviour. Each unit of the budget has an instruction, and at most 16 instructions fewer than a unit pays for are left
 /// over.
 ///
-/// Source: this project's own, for [expr.mul] to [expr.cond], [expr.unary.op], [expr.cast] and [expr.prim.id] of the C++ draft.
+/// Source: this project's own, for [expr.mul] to [expr.cond], [expr.unary.op], [expr.cast] and [expr.prim.id] of the C++
+/// draft.
 pub fn expressions_are_followed()
     ensures { ExpressionsAreFollowed }
 {}
