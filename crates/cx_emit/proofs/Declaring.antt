@@ -12,14 +12,13 @@ use Rattle.cx_code.specs.Store as memory
 use Rattle.cx_code.specs.State.{State}
 use Rattle.cx_code.specs.Act as machine
 use Rattle.cx_code.specs.Act.{next, on_slot, on_some, mixed}
-use Rattle.cx_types.specs.declared.value_type.Scalar.{Scalar}
-use Rattle.cx_core.specs.Tree.{scalar, Operand, value}
+use Rattle.cx_core.specs.Tree.{ObjectType, scalar, pointer, class, Operand, value}
 use Rattle.cx_core.specs.Program.{Program}
 use Rattle.cx_core.specs.Store as store
 use Rattle.cx_core.specs.Store.{Store, address, leaves_of}
 use Rattle.cx_core.specs.Outcome as source
 use Rattle.cx_core.specs.Outcome.{Outcome, on, over, Does, Nothing, nothing, Living, whole, after, either, gives, throws, make, write, current_frame, set_frame, current_living, set_living, keep, end_lifetime}
-use Rattle.cx_core.specs.Leaving.{Calls, object}
+use Rattle.cx_core.specs.Leaving.{Calls, leaves_of_type, full_expression}
 use Rattle.cx_core.specs.Operators.{denoted, bind}
 use Rattle.cx_core.specs.Statements.{Completion, on_to_next, variable_of}
 use Rattle.cx_core.specs.Meaning.{used, init}
@@ -38,7 +37,7 @@ use Rattle.cx_emit.proofs.Valuing.{account}
 use Rattle.cx_emit.proofs.Expressions.{used_follows}
 use Rattle.cx_emit.proofs.Asserting.{Never, never_on, at}
 use Rattle.cx_emit.proofs.Objects.{IsAlive, made_alike}
-use Rattle.cx_emit.proofs.Scopes.{AreSame, AllSame, Lives, lives_on, IsReady, IsIn, Completed, kept_ready}
+use Rattle.cx_emit.proofs.Scopes.{IsSimple, AreSame, AllSame, Lives, lives_on, IsReady, IsIn, Completed, kept_ready}
 use Rattle.cx_emit.proofs.Ending.{of_completion, with_living}
 use Rattle.cx_emit.proofs.Storing.{full_changes, with_temporaries, Written, written_on, write_steps}
 
@@ -93,7 +92,7 @@ alive_itself store n = elim (eqb_tells n n) [ inl e ↦ (None ∷ [], ap (λ b. 
 alive_more : (store : Store) (n k : ℕ) → k < n → IsAlive store k → IsAlive (record { number = n; leaves = None ∷ [] } ∷ store) k
 alive_more store n k h alive = elim (eqb_tells n k) [ inl e ↦ absurd (omega (arith, h, e.1)) | inr e ↦ (alive.0, ap (λ b. if b then Some (None ∷ []) else leaves_of store k) e.0 ∙ alive.1) ]
 
-module _ (image : Image) (function : ℕ) (program : Program) (calls : Calls) (scopes : List (List ℕ)) (slot : ℕ) (type : Scalar) (a : Operand) (from to : ℕ) (st : StandsDeclaration image function scopes slot a from to) where
+module _ (image : Image) (function : ℕ) (program : Program) (calls : Calls) (scopes : List (List ℕ)) (slot : ℕ) (type : ObjectType) (simple : IsSimple type) (a : Operand) (from to : ℕ) (st : StandsDeclaration image function scopes slot a from to) where
   module _ (s : source.State) (m : State) (r : IsReady image function s m) where
     -- where the object is made and its name bound
     bound : source.State
@@ -174,7 +173,7 @@ module _ (image : Image) (function : ℕ) (program : Program) (calls : Calls) (s
 
     module _ (first : ℕ) (now : List ℕ) (outer : List (List ℕ)) (same_scopes : scopes ≡ now ∷ outer) (i : IsIn image function first now s m) (Wants : Completion → ℕ → Type 0) (wanted : Wants on_to_next to) where
       the_variable : Living
-      the_variable = whole s.next (scalar type)
+      the_variable = whole s.next type
 
       unused : IsUnused slot (now ∷ outer)
       unused = subst (IsUnused slot) same_scopes st.is_unused
@@ -191,9 +190,10 @@ module _ (image : Image) (function : ℕ) (program : Program) (calls : Calls) (s
             carried = refl;
             wanted = wanted;
             is_in = record {
-              ready = with_temporaries image function (record t { living = whole s.next (scalar type) ∷ t.living }) g.machine s.temporaries (with_living image function program calls t g.machine (whole s.next (scalar type) ∷ t.living) g.ready);
+              ready = with_temporaries image function (record t { living = whole s.next type ∷ t.living }) g.machine s.temporaries (with_living image function program calls t g.machine (whole s.next type ∷ t.living) g.ready);
               first_number = omega (arith, i.first_number, g.same_next);
               lives = (
+                simple,
                 ap (λ l. slice_get l slot) g.same_slots ∙ get_itself (m.frame).slots slot (Some (values.Address s.next 0)) is_within,
                 i.first_number,
                 omega (arith, g.same_next),
@@ -212,18 +212,36 @@ module _ (image : Image) (function : ℕ) (program : Program) (calls : Calls) (s
             };
           }
 
-      pub declaration_follows : (n : ℕ) → s.begins ≡ begins_ahead (image_step image) n (running_at m from [])
-          → Follows (image_step image) n s (running_at m from []) of_completion (λ (_ : Nothing) d t. Completed image function first (now ∷ outer) (slot ∷ now) Wants s m on_to_next d t) (Never s m) (variable_of program calls slot (scalar type) (init program calls (value a)) s)
+      -- what is done with the one leaf
+      abbrev objects : ℕ → Does ℕ
+      objects leaves =
+          either (make leaves)
+          (λ n. either (either (either (bind slot (address (record { object = n; leaf = 0 }))) (λ _. init program calls (value a) (record { object = n; leaf = 0 })) throws) gives (λ e. either (end_lifetime n) (λ _. throws e) throws))
+          (λ _. either (keep (whole n type)) (λ _. gives n) throws) throws) throws
+
+      one_leaf_follows : (n : ℕ) → s.begins ≡ begins_ahead (image_step image) n (running_at m from [])
+          → Follows (image_step image) n s (running_at m from []) of_completion (λ (_ : Nothing) d t. Completed image function first (now ∷ outer) (slot ∷ now) Wants s m on_to_next d t) (Never s m) (full_expression program calls (either (either (gives 1) objects throws) (λ _. gives nothing) throws) s)
       unfolding init either gives throws make current_frame set_frame current_living set_living bound the_place the_variable
-      declaration_follows n told =
-          full_changes (image_step image) program calls (either (object program calls keep (scalar type) (λ p. either (bind slot (address p)) (λ _. init program calls (value a) p) throws)) (λ _. gives nothing) throws) n s (running_at m from []) of_completion
+      one_leaf_follows n told =
+          full_changes (image_step image) program calls (either (either (gives 1) objects throws) (λ _. gives nothing) throws) n s (running_at m from []) of_completion
           (λ (_ : Nothing) d t. (t.temporaries ≡ []) × Completed image function first (now ∷ outer) (slot ∷ now) Wants s m on_to_next d (record t { temporaries = s.temporaries })) (λ (_ : Nothing) d t. Completed image function first (now ∷ outer) (slot ∷ now) Wants s m on_to_next d t)
           (λ _ t d p. p)
           (follows_from (image_step image) n (record s { temporaries = [] }) bound (running_at m from []) of_completion (λ (_ : Nothing) d t. (t.temporaries ≡ []) × Completed image function first (now ∷ outer) (slot ∷ now) Wants s m on_to_next d (record t { temporaries = s.temporaries })) (λ e d t. ⊥) _ refl refl
           (follows_changes (image_step image) n bound (running_at m from []) of_completion (λ (_ : Nothing) d t. Written image function to bound with_object d t)
           (λ (_ : Nothing) d t. (t.temporaries ≡ []) × Completed image function first (now ∷ outer) (slot ∷ now) Wants s m on_to_next d (record t { temporaries = s.temporaries }))
-          (λ r. after (after (after r gives (λ e. either (end_lifetime s.next) (λ _. throws e) throws)) (λ _. either (keep (whole s.next (scalar type))) (λ _. gives s.next) throws) throws) (λ _. gives nothing) throws)
+          (λ r. after (after (after r gives (λ e. either (end_lifetime s.next) (λ _. throws e) throws)) (λ _. either (keep (whole s.next type)) (λ _. gives s.next) throws) throws) (λ _. gives nothing) throws)
           (either (used program calls a) (λ v. write the_place (Some v)) throws bound)
           (λ answer trace. refl)
-          (λ _ t d g. (nothing, record t { living = whole s.next (scalar type) ∷ t.living }, refl, refl, refl, refl, (g.same_temporaries, declared t d g)))
+          (λ _ t d g. (nothing, record t { living = whole s.next type ∷ t.living }, refl, refl, refl, refl, (g.same_temporaries, declared t d g)))
           (made_follows n told)))
+
+      one_leaf : (type : ObjectType) → IsSimple type → leaves_of_type program calls type ≡ gives 1
+      one_leaf (scalar t) h = refl
+      one_leaf pointer h = refl
+      one_leaf (class c) h = absurd h
+
+      pub declaration_follows : (n : ℕ) → s.begins ≡ begins_ahead (image_step image) n (running_at m from [])
+          → Follows (image_step image) n s (running_at m from []) of_completion (λ (_ : Nothing) d t. Completed image function first (now ∷ outer) (slot ∷ now) Wants s m on_to_next d t) (Never s m) (variable_of program calls slot type (init program calls (value a)) s)
+      declaration_follows n told =
+          subst (λ leaves. Follows (image_step image) n s (running_at m from []) of_completion (λ (_ : Nothing) d t. Completed image function first (now ∷ outer) (slot ∷ now) Wants s m on_to_next d t) (Never s m) (full_expression program calls (either (either leaves objects throws) (λ _. gives nothing) throws) s))
+          (sym (one_leaf type simple)) (one_leaf_follows n told)

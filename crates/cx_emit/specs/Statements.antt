@@ -6,7 +6,7 @@ use Rattle.cx_core.specs.declared.number.IntegerType.{IntegerType}
 use Rattle.cx_core.specs.declared.number.BinaryOperator.{BinaryOperator}
 use Rattle.cx_core.specs.Words.{Definer}
 use Rattle.cx_core.specs.Number.{promoted}
-use Rattle.cx_core.specs.Tree.{scalar, Expr, assign, prefix_step, postfix_step, Operand, value, Stmt, Stmts, empty, expression, variable_declaration, block, if_else, while_loop, for_loop, Condition, always, while, break, continue, contract_assert, return_value, done, next}
+use Rattle.cx_core.specs.Tree.{scalar, pointer, Expr, assign, prefix_step, postfix_step, Operand, value, Stmt, Stmts, empty, expression, variable_declaration, block, if_else, while_loop, for_loop, Condition, always, while, break, continue, contract_assert, return_value, done, next}
 use Rattle.cx_emit.specs.Configuration.{operation_at, Has}
 use Rattle.cx_emit.specs.Operations.{scalar_of, binary_operation}
 use Rattle.cx_emit.specs.Stands.{HasSome, StandsNumberLoad, StandsExpr, StandsOperand}
@@ -67,6 +67,7 @@ module _ (image : Image) (function : ℕ) where
     StandsStmt around now empty from to = to ≡ from
     StandsStmt around now (expression e) from to = StandsDiscarded e from to
     StandsStmt around now (variable_declaration slot (scalar type) (value a)) from to = StandsDeclaration (now ∷ around.scopes) slot a from to
+    StandsStmt around now (variable_declaration slot pointer (value a)) from to = StandsDeclaration (now ∷ around.scopes) slot a from to
     StandsStmt around now (block b) from to = StandsStmts (inside around now) [] b from to
     StandsStmt around now (if_else c a b) from to =
         (declares a ≡ false) × (declares b ≡ false) × (p q other : ℕ) × StandsCondition (while c) from p other × StandsStmt around now a p q × GoesOn image function q to × StandsStmt around now b other to
