@@ -9,7 +9,7 @@ use Rattle.cx_code.specs.Act.{next, on_slot}
 use Rattle.cx_core.specs.declared.number.IntegerType.{IntegerType}
 use Rattle.cx_core.specs.declared.number.BinaryOperator.{BinaryOperator}
 use Rattle.cx_core.specs.declared.number.UnaryOperator.{UnaryOperator}
-use Rattle.cx_core.specs.Tree.{ObjectType, Constant, Expr, literal, variable, global, unary, binary, logical_and, logical_or, conditional, cast, putchar, getchar, Operand, operand}
+use Rattle.cx_core.specs.Tree.{ObjectType, Constant, Expr, literal, variable, global, unary, binary, logical_and, logical_or, conditional, cast, indirection, putchar, getchar, Operand, operand}
 use Rattle.cx_core.specs.Tree as tree
 use Rattle.cx_core.specs.Program.{Program}
 use Rattle.cx_core.specs.Store as store
@@ -28,6 +28,7 @@ use Rattle.cx_emit.specs.Laws.{of_expression, of_operand}
 use Rattle.cx_emit.proofs.Places.{gives_on, has_some, at_place, puts, PutsValue, Valued}
 use Rattle.cx_emit.proofs.Valuing.{account, value_then, unit_follows, alone_follows}
 use Rattle.cx_emit.proofs.Operators.{unary_steps, binary_steps}
+use Rattle.cx_emit.proofs.Pointing.{indirection_follows}
 use Rattle.cx_emit.proofs.Deciding.{and_follows, or_follows, conditional_follows, cast_follows}
 use Rattle.cx_emit.proofs.Output.{writes, read_steps}
 use Rattle.cx_emit.proofs.Operands.{read_follows, conversion_follows}
@@ -126,6 +127,7 @@ module _ (image : Image) (function : ℕ) (Fly : source.State → State → sour
           conditional_follows image function Fly fly_on (used program calls a) (used program calls b) (used program calls c) from st.0 st.1 st.2 st.3 st.4 to
           (used_follows a from st.0 st.5) st.6 st.7 (used_follows b st.2 st.3 st.8) st.9 (used_follows c st.4 to st.10)
       expr_follows (cast a) from to st = cast_follows image function Fly fly_on (used program calls a) from st.0 to (used_follows a from st.0 st.1) st.2
+      expr_follows (indirection a) from to st = indirection_follows image function Fly fly_on st.0 st.1 st.2 st.3 to st.5 st.6 st.7 st.8 (used program calls a) from (used_follows a from st.0 st.4)
       expr_follows (putchar a) from to st = putchar_follows (used program calls a) from st.0 st.1 to st.3 st.4 (used_follows a from st.0 st.2)
       expr_follows getchar from to st = alone_follows image function Fly fly_on next_byte from to (λ s m operands a budget. read_steps image function Fly s m budget from to operands a st)
       expr_follows e from to st = absurd st

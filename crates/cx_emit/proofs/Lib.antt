@@ -6,6 +6,7 @@ mod Operators
 mod Operands
 mod Output
 mod Deciding
+mod Pointing
 mod Expressions
 mod Asserting
 mod Evaluating

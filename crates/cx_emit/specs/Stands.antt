@@ -7,7 +7,7 @@ use Rattle.cx_code.specs.declared.operation.Scalar.TheVariants as scalars
 use Rattle.cx_core.specs.declared.number.IntegerType.{IntegerType}
 use Rattle.cx_core.specs.declared.number.IntegerType.TheVariants as types
 use Rattle.cx_core.specs.Operators.{integer_of}
-use Rattle.cx_core.specs.Tree.{ObjectType, scalar, pointer, class, Constant, number, nullptr, Expr, literal, variable, global, unary, binary, logical_and, logical_or, conditional, cast, putchar, getchar, Operand, operand}
+use Rattle.cx_core.specs.Tree.{ObjectType, scalar, pointer, class, Constant, number, nullptr, Expr, literal, variable, global, unary, binary, logical_and, logical_or, conditional, cast, indirection, putchar, getchar, Operand, operand}
 use Rattle.cx_emit.specs.Configuration.{operation_at, Has}
 use Rattle.cx_emit.specs.Operations.{scalar_of, unary_operation, binary_operation}
 
@@ -61,6 +61,10 @@ module _ (image : Image) (function : ℕ) where
         × StandsOperand b r s × (operation_at image function s ≡ Some (does.Jump to)) × StandsOperand c other to
     -- a jump to the next place stands for the unit
     StandsExpr (cast a) from to = (p : ℕ) × StandsOperand a from p × (operation_at image function p ≡ Some (does.Jump to))
+    -- the place that a pointer points to; a null pointer is read, which is undefined
+    StandsExpr (indirection a) from to =
+        (p q r s : ℕ) × StandsOperand a from p × Has image function p does.Duplicate q × Has image function q (does.Convert scalars.Bool) r × Has image function r (does.JumpNonzero to) s
+        × (operation_at image function s ≡ Some does.Load)
     -- two units, of which the jump to the next place stands for the one
     StandsExpr (putchar a) from to = (p q : ℕ) × StandsOperand a from p × (operation_at image function p ≡ Some (does.Jump q)) × Has image function q does.Out to
     StandsExpr getchar from to = Has image function from does.In to
