@@ -59,30 +59,26 @@ others_same : (slot : ℕ) (slots : List ℕ) (l : List (Option Value)) (x : Opt
 others_same slot [] l x h = tt {0}
 others_same slot (other ∷ slots) l x h = (get_other l slot other x h.0, others_same slot slots l x h.1)
 
-unused_same : (slot : ℕ) (scopes : List (List ℕ)) (l : List (Option Value)) (x : Option Value) → IsUnused slot scopes → AllSame scopes l (slice_set l slot x)
+pub unused_same : (slot : ℕ) (scopes : List (List ℕ)) (l : List (Option Value)) (x : Option Value) → IsUnused slot scopes → AllSame scopes l (slice_set l slot x)
 unused_same slot [] l x h = tt {0}
 unused_same slot (slots ∷ scopes) l x h = (others_same slot slots l x h.0, unused_same slot scopes l x h.1)
 
--- the slot's name denotes the object, the others what they did
-named_on : (slot n : ℕ) (variables : List (ℕ × store.Value)) (slots : List (Option Value)) → slot < length slots → AreNamed variables slots
-    → AreNamed ((slot, address (record { object = n; leaf = 0 })) ∷ variables) (slice_set slots slot (Some (values.Address n 0)))
-named_on slot n variables slots h named other v e = elim (eqb_tells slot other) [ inl f ↦ this f.0 f.1 | inr f ↦ that f.0 (λ g. f.1 (sym g)) ]
+-- the slot's name denotes the value, the others what they did
+pub named_on : (slot : ℕ) (now : store.Value) (what : Value) → IsValue now what → (variables : List (ℕ × store.Value)) (slots : List (Option Value)) → slot < length slots → AreNamed variables slots → AreNamed ((slot, now) ∷ variables) (slice_set slots slot (Some what))
+named_on slot now what is variables slots h named other v e = elim (eqb_tells slot other) [ inl f ↦ this f.0 f.1 | inr f ↦ that f.0 (λ g. f.1 (sym g)) ]
   where
     is_that : (a b : store.Value) → Some a ≡ Some b → a ≡ b
     is_that a b e = cc
 
-    this : nat_eq slot other ≡ true → slot ≡ other → (w : Value) × (slice_get (slice_set slots slot (Some (values.Address n 0))) other ≡ Some (Some w)) × IsValue v w
+    this : nat_eq slot other ≡ true → slot ≡ other → (w : Value) × (slice_get (slice_set slots slot (Some what)) other ≡ Some (Some w)) × IsValue v w
     this f g =
-        let same : Some (address (record { object = n; leaf = 0 })) ≡ Some v = sym (ap (λ b. if b then Some (address (record { object = n; leaf = 0 })) else denoted variables other) f) ∙ e in (
-          values.Address n 0,
-          ap (slice_get (slice_set slots slot (Some (values.Address n 0)))) (sym g) ∙ get_itself slots slot (Some (values.Address n 0)) h,
-          subst (λ v. IsValue v (values.Address n 0)) (is_that (address (record { object = n; leaf = 0 })) v same) refl,
-        )
+        let same : Some now ≡ Some v = sym (ap (λ b. if b then Some now else denoted variables other) f) ∙ e in
+        (what, ap (slice_get (slice_set slots slot (Some what))) (sym g) ∙ get_itself slots slot (Some what) h, subst (λ v. IsValue v what) (is_that now v same) is)
 
-    that : nat_eq slot other ≡ false → other ≢ slot → (w : Value) × (slice_get (slice_set slots slot (Some (values.Address n 0))) other ≡ Some (Some w)) × IsValue v w
+    that : nat_eq slot other ≡ false → other ≢ slot → (w : Value) × (slice_get (slice_set slots slot (Some what)) other ≡ Some (Some w)) × IsValue v w
     that f g =
-        let x = named other v (sym (ap (λ b. if b then Some (address (record { object = n; leaf = 0 })) else denoted variables other) f) ∙ e) in
-        (x.0, get_other slots slot other (Some (values.Address n 0)) g ∙ x.1, x.2)
+        let x = named other v (sym (ap (λ b. if b then Some now else denoted variables other) f) ∙ e) in
+        (x.0, get_other slots slot other (Some what) g ∙ x.1, x.2)
 
 -- ---- an object more
 
@@ -117,7 +113,7 @@ module _ (image : Image) (function : ℕ) (program : Program) (calls : Calls) (s
         same_store = made_alike s.store m.store s.next (r.agrees).same_next (r.agrees).same_store;
         same_next = ap (λ n. n + 1) (r.agrees).same_next ∙ omega arith;
         same_input = (r.agrees).same_input;
-        same_names = named_on slot s.next (s.frame).variables (m.frame).slots is_within (r.agrees).same_names;
+        same_names = named_on slot (address (record { object = s.next; leaf = 0 })) (values.Address s.next 0) refl (s.frame).variables (m.frame).slots is_within (r.agrees).same_names;
       };
       no_result = r.no_result;
       has_slots = length-set (m.frame).slots slot (Some (values.Address s.next 0)) ∙ r.has_slots;

@@ -16,6 +16,7 @@ mod Ending
 mod Storing
 mod Stepping
 mod Declaring
+mod Referring
 mod Completing
 mod Choosing
 mod Stating

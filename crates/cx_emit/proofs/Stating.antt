@@ -5,14 +5,14 @@ use Rattle.cx_code.specs.declared.operation.Operation.TheVariants as does
 use Rattle.cx_code.specs.declared.run.Value.{Value}
 use Rattle.cx_code.specs.State.{State}
 use Rattle.cx_core.specs.Words.{Definer}
-use Rattle.cx_core.specs.Tree.{ObjectType, scalar, pointer, Check, Expr, assign, prefix_step, postfix_step, Operand, value, Stmt, empty, expression, variable_declaration}
+use Rattle.cx_core.specs.Tree.{ObjectType, scalar, pointer, Check, Expr, assign, prefix_step, postfix_step, Operand, value, Stmt, empty, expression, variable_declaration, reference_declaration}
 use Rattle.cx_core.specs.Program.{Program}
 use Rattle.cx_core.specs.Store as store
 use Rattle.cx_core.specs.Outcome as source
 use Rattle.cx_core.specs.Outcome.{on, over, Does, Nothing, nothing, after, either, gives, throws, current_frame}
 use Rattle.cx_core.specs.Leaving.{Calls, scope, full_expression}
 use Rattle.cx_core.specs.Operators.{assignment, prefix_operation, postfix_operation}
-use Rattle.cx_core.specs.Statements.{Completion, on_to_next, return, completed, variable_of}
+use Rattle.cx_core.specs.Statements.{Completion, on_to_next, return, completed, variable_of, reference_of}
 use Rattle.cx_core.specs.Meaning.{expr, used, init, checked, result_stored, stmt}
 use Rattle.cx_simulation.specs.Machine.{begins_ahead}
 use Rattle.cx_simulation.specs.ImageMachine.{image_step}
@@ -35,6 +35,7 @@ use Rattle.cx_emit.proofs.Ending.{of_completion, scope_follows}
 use Rattle.cx_emit.proofs.Storing.{full_changes, with_temporaries, Written, assign_follows}
 use Rattle.cx_emit.proofs.Stepping.{prefix_follows, postfix_follows}
 use Rattle.cx_emit.proofs.Declaring.{declaration_follows}
+use Rattle.cx_emit.proofs.Referring.{reference_follows}
 use Rattle.cx_emit.proofs.Completing.{Stated, AllStated, completed_so, placed, written_there, given_there}
 
 module _ (image : Image) (function : ℕ) (program : Program) (calls : Calls) (default : HaveDefaultHandler image program) where
@@ -139,6 +140,9 @@ module _ (image : Image) (function : ℕ) (program : Program) (calls : Calls) (d
     simple_follows (variable_declaration slot (scalar type) (value a)) from to e st = declared_follows slot (scalar type) (tt {0}) a from to st
     simple_follows (variable_declaration slot pointer (value a)) from to e st = declared_follows slot pointer (tt {0}) a from to st
     simple_follows (variable_declaration slot type init) from to e st = absurd st
+    simple_follows (reference_declaration slot e) from to g st =
+        completed_follows now (reference_of program calls slot (expr program calls e)) from to
+        (λ first n s m i told. reference_follows image function program calls (now ∷ around.scopes) slot e from to st first now around.scopes refl (λ c p. p ≡ to) refl n s m i told)
     simple_follows other from to e st = absurd cc
 
     -- ---- contract assertions and returned values

@@ -30,9 +30,10 @@ pub fn checks_are_followed()
 {}
 
 /// An image that stands for a well made program of `main` alone has only runs that the program permits: blocks, variables
-/// of scalar and pointer types, `if`, loops with `break` and `continue`, `return` with a value, assignments, `++`, `--`
-/// and other expressions whose value is discarded, and contract assertions that are evaluated once or not at all, of the
-/// expressions of the other laws. The image's first function calls another one, which has the code of the body.
+/// of scalar and pointer types, references, `if`, loops with `break` and `continue`, `return` with a value, assignments,
+/// `++`, `--` and other expressions whose value is discarded, and contract assertions that are evaluated once or not at
+/// all, of the expressions of the other laws. The image's first function calls another one, which has the code of the
+/// body.
 ///
 /// Source: this project's own, for [stmt] and [basic.start.main] of the C++ draft and [basic.contract.eval] of P2900R14.
 pub fn images_of_main_are_faithful()
