@@ -26,7 +26,7 @@ use Rattle.cx_simulation.proofs.Parts.{follows_then, follows_less, follows_one, 
 use Rattle.cx_emit.specs.Configuration.{running_at, operation_at, Has, Agrees, AreKept, IsAt}
 use Rattle.cx_emit.specs.Checks.{IsAssertion, HaveDefaultHandler, GoesOn, StandsViolated}
 use Rattle.cx_emit.proofs.Places.{all_kept, kept_on}
-use Rattle.cx_emit.proofs.Expressions.{account}
+use Rattle.cx_emit.proofs.Valuing.{account}
 
 -- no exception flies
 abbrev pub Never : source.State → State → source.Exception → State → source.State → Type 0

@@ -24,7 +24,7 @@ use Rattle.cx_emit.specs.Checks.{GoesOn}
 use Rattle.cx_emit.specs.Scopes.{Loop, Surroundings, in_loop, StandsExit}
 use Rattle.cx_emit.specs.Statements.{StandsCondition}
 use Rattle.cx_emit.proofs.Places.{all_kept, jumps_to}
-use Rattle.cx_emit.proofs.Expressions.{account}
+use Rattle.cx_emit.proofs.Valuing.{account}
 use Rattle.cx_emit.proofs.Asserting.{Never, is_at_on, step_to, at, from_place}
 use Rattle.cx_emit.proofs.Evaluating.{truth_follows}
 use Rattle.cx_emit.proofs.Scopes.{IsIn, AreLeft, Reaches, Completed, completed_on}

@@ -12,14 +12,13 @@ use Rattle.cx_code.specs.Store as memory
 use Rattle.cx_code.specs.State.{State}
 use Rattle.cx_code.specs.Act as machine
 use Rattle.cx_code.specs.Act.{next, on_slot, on_some, mixed}
-use Rattle.cx_types.specs.declared.value_type.Scalar.{Scalar}
-use Rattle.cx_core.specs.Tree.{scalar, Operand, value}
+use Rattle.cx_core.specs.Tree.{ObjectType, scalar, pointer, class, Operand, value}
 use Rattle.cx_core.specs.Program.{Program}
 use Rattle.cx_core.specs.Store as store
 use Rattle.cx_core.specs.Store.{Store, address, leaves_of}
 use Rattle.cx_core.specs.Outcome as source
 use Rattle.cx_core.specs.Outcome.{Outcome, on, over, Does, Nothing, nothing, Living, whole, after, either, gives, throws, make, write, current_frame, set_frame, current_living, set_living, keep, end_lifetime}
-use Rattle.cx_core.specs.Leaving.{Calls, object}
+use Rattle.cx_core.specs.Leaving.{Calls, leaves_of_type, full_expression}
 use Rattle.cx_core.specs.Operators.{denoted, bind}
 use Rattle.cx_core.specs.Statements.{Completion, on_to_next, variable_of}
 use Rattle.cx_core.specs.Meaning.{used, init}
@@ -34,10 +33,11 @@ use Rattle.cx_emit.specs.Configuration.{running_at, AreNamed, Gives}
 use Rattle.cx_emit.specs.Scopes.{IsOther, IsUnused}
 use Rattle.cx_emit.specs.Statements.{StandsDeclaration}
 use Rattle.cx_emit.specs.Laws.{of_operand}
-use Rattle.cx_emit.proofs.Expressions.{account, used_follows}
+use Rattle.cx_emit.proofs.Valuing.{account}
+use Rattle.cx_emit.proofs.Expressions.{used_follows}
 use Rattle.cx_emit.proofs.Asserting.{Never, never_on, at}
 use Rattle.cx_emit.proofs.Objects.{IsAlive, made_alike}
-use Rattle.cx_emit.proofs.Scopes.{AreSame, AllSame, Lives, lives_on, IsReady, IsIn, Completed, kept_ready}
+use Rattle.cx_emit.proofs.Scopes.{IsSimple, AreSame, AllSame, Lives, lives_on, IsReady, IsIn, Completed, kept_ready}
 use Rattle.cx_emit.proofs.Ending.{of_completion, with_living}
 use Rattle.cx_emit.proofs.Storing.{full_changes, with_temporaries, Written, written_on, write_steps}
 
@@ -59,30 +59,26 @@ others_same : (slot : ℕ) (slots : List ℕ) (l : List (Option Value)) (x : Opt
 others_same slot [] l x h = tt {0}
 others_same slot (other ∷ slots) l x h = (get_other l slot other x h.0, others_same slot slots l x h.1)
 
-unused_same : (slot : ℕ) (scopes : List (List ℕ)) (l : List (Option Value)) (x : Option Value) → IsUnused slot scopes → AllSame scopes l (slice_set l slot x)
+pub unused_same : (slot : ℕ) (scopes : List (List ℕ)) (l : List (Option Value)) (x : Option Value) → IsUnused slot scopes → AllSame scopes l (slice_set l slot x)
 unused_same slot [] l x h = tt {0}
 unused_same slot (slots ∷ scopes) l x h = (others_same slot slots l x h.0, unused_same slot scopes l x h.1)
 
--- the slot's name denotes the object, the others what they did
-named_on : (slot n : ℕ) (variables : List (ℕ × store.Value)) (slots : List (Option Value)) → slot < length slots → AreNamed variables slots
-    → AreNamed ((slot, address (record { object = n; leaf = 0 })) ∷ variables) (slice_set slots slot (Some (values.Address n 0)))
-named_on slot n variables slots h named other v e = elim (eqb_tells slot other) [ inl f ↦ this f.0 f.1 | inr f ↦ that f.0 (λ g. f.1 (sym g)) ]
+-- the slot's name denotes the value, the others what they did
+pub named_on : (slot : ℕ) (now : store.Value) (what : Value) → IsValue now what → (variables : List (ℕ × store.Value)) (slots : List (Option Value)) → slot < length slots → AreNamed variables slots → AreNamed ((slot, now) ∷ variables) (slice_set slots slot (Some what))
+named_on slot now what is variables slots h named other v e = elim (eqb_tells slot other) [ inl f ↦ this f.0 f.1 | inr f ↦ that f.0 (λ g. f.1 (sym g)) ]
   where
     is_that : (a b : store.Value) → Some a ≡ Some b → a ≡ b
     is_that a b e = cc
 
-    this : nat_eq slot other ≡ true → slot ≡ other → (w : Value) × (slice_get (slice_set slots slot (Some (values.Address n 0))) other ≡ Some (Some w)) × IsValue v w
+    this : nat_eq slot other ≡ true → slot ≡ other → (w : Value) × (slice_get (slice_set slots slot (Some what)) other ≡ Some (Some w)) × IsValue v w
     this f g =
-        let same : Some (address (record { object = n; leaf = 0 })) ≡ Some v = sym (ap (λ b. if b then Some (address (record { object = n; leaf = 0 })) else denoted variables other) f) ∙ e in (
-          values.Address n 0,
-          ap (slice_get (slice_set slots slot (Some (values.Address n 0)))) (sym g) ∙ get_itself slots slot (Some (values.Address n 0)) h,
-          subst (λ v. IsValue v (values.Address n 0)) (is_that (address (record { object = n; leaf = 0 })) v same) refl,
-        )
+        let same : Some now ≡ Some v = sym (ap (λ b. if b then Some now else denoted variables other) f) ∙ e in
+        (what, ap (slice_get (slice_set slots slot (Some what))) (sym g) ∙ get_itself slots slot (Some what) h, subst (λ v. IsValue v what) (is_that now v same) is)
 
-    that : nat_eq slot other ≡ false → other ≢ slot → (w : Value) × (slice_get (slice_set slots slot (Some (values.Address n 0))) other ≡ Some (Some w)) × IsValue v w
+    that : nat_eq slot other ≡ false → other ≢ slot → (w : Value) × (slice_get (slice_set slots slot (Some what)) other ≡ Some (Some w)) × IsValue v w
     that f g =
-        let x = named other v (sym (ap (λ b. if b then Some (address (record { object = n; leaf = 0 })) else denoted variables other) f) ∙ e) in
-        (x.0, get_other slots slot other (Some (values.Address n 0)) g ∙ x.1, x.2)
+        let x = named other v (sym (ap (λ b. if b then Some now else denoted variables other) f) ∙ e) in
+        (x.0, get_other slots slot other (Some what) g ∙ x.1, x.2)
 
 -- ---- an object more
 
@@ -92,7 +88,7 @@ alive_itself store n = elim (eqb_tells n n) [ inl e ↦ (None ∷ [], ap (λ b. 
 alive_more : (store : Store) (n k : ℕ) → k < n → IsAlive store k → IsAlive (record { number = n; leaves = None ∷ [] } ∷ store) k
 alive_more store n k h alive = elim (eqb_tells n k) [ inl e ↦ absurd (omega (arith, h, e.1)) | inr e ↦ (alive.0, ap (λ b. if b then Some (None ∷ []) else leaves_of store k) e.0 ∙ alive.1) ]
 
-module _ (image : Image) (function : ℕ) (program : Program) (calls : Calls) (scopes : List (List ℕ)) (slot : ℕ) (type : Scalar) (a : Operand) (from to : ℕ) (st : StandsDeclaration image function scopes slot a from to) where
+module _ (image : Image) (function : ℕ) (program : Program) (calls : Calls) (scopes : List (List ℕ)) (slot : ℕ) (type : ObjectType) (simple : IsSimple type) (a : Operand) (from to : ℕ) (st : StandsDeclaration image function scopes slot a from to) where
   module _ (s : source.State) (m : State) (r : IsReady image function s m) where
     -- where the object is made and its name bound
     bound : source.State
@@ -117,7 +113,7 @@ module _ (image : Image) (function : ℕ) (program : Program) (calls : Calls) (s
         same_store = made_alike s.store m.store s.next (r.agrees).same_next (r.agrees).same_store;
         same_next = ap (λ n. n + 1) (r.agrees).same_next ∙ omega arith;
         same_input = (r.agrees).same_input;
-        same_names = named_on slot s.next (s.frame).variables (m.frame).slots is_within (r.agrees).same_names;
+        same_names = named_on slot (address (record { object = s.next; leaf = 0 })) (values.Address s.next 0) refl (s.frame).variables (m.frame).slots is_within (r.agrees).same_names;
       };
       no_result = r.no_result;
       has_slots = length-set (m.frame).slots slot (Some (values.Address s.next 0)) ∙ r.has_slots;
@@ -173,7 +169,7 @@ module _ (image : Image) (function : ℕ) (program : Program) (calls : Calls) (s
 
     module _ (first : ℕ) (now : List ℕ) (outer : List (List ℕ)) (same_scopes : scopes ≡ now ∷ outer) (i : IsIn image function first now s m) (Wants : Completion → ℕ → Type 0) (wanted : Wants on_to_next to) where
       the_variable : Living
-      the_variable = whole s.next (scalar type)
+      the_variable = whole s.next type
 
       unused : IsUnused slot (now ∷ outer)
       unused = subst (IsUnused slot) same_scopes st.is_unused
@@ -190,9 +186,10 @@ module _ (image : Image) (function : ℕ) (program : Program) (calls : Calls) (s
             carried = refl;
             wanted = wanted;
             is_in = record {
-              ready = with_temporaries image function (record t { living = whole s.next (scalar type) ∷ t.living }) g.machine s.temporaries (with_living image function program calls t g.machine (whole s.next (scalar type) ∷ t.living) g.ready);
+              ready = with_temporaries image function (record t { living = whole s.next type ∷ t.living }) g.machine s.temporaries (with_living image function program calls t g.machine (whole s.next type ∷ t.living) g.ready);
               first_number = omega (arith, i.first_number, g.same_next);
               lives = (
+                simple,
                 ap (λ l. slice_get l slot) g.same_slots ∙ get_itself (m.frame).slots slot (Some (values.Address s.next 0)) is_within,
                 i.first_number,
                 omega (arith, g.same_next),
@@ -211,18 +208,36 @@ module _ (image : Image) (function : ℕ) (program : Program) (calls : Calls) (s
             };
           }
 
-      pub declaration_follows : (n : ℕ) → s.begins ≡ begins_ahead (image_step image) n (running_at m from [])
-          → Follows (image_step image) n s (running_at m from []) of_completion (λ (_ : Nothing) d t. Completed image function first (now ∷ outer) (slot ∷ now) Wants s m on_to_next d t) (Never s m) (variable_of program calls slot (scalar type) (init program calls (value a)) s)
+      -- what is done with the one leaf
+      abbrev objects : ℕ → Does ℕ
+      objects leaves =
+          either (make leaves)
+          (λ n. either (either (either (bind slot (address (record { object = n; leaf = 0 }))) (λ _. init program calls (value a) (record { object = n; leaf = 0 })) throws) gives (λ e. either (end_lifetime n) (λ _. throws e) throws))
+          (λ _. either (keep (whole n type)) (λ _. gives n) throws) throws) throws
+
+      one_leaf_follows : (n : ℕ) → s.begins ≡ begins_ahead (image_step image) n (running_at m from [])
+          → Follows (image_step image) n s (running_at m from []) of_completion (λ (_ : Nothing) d t. Completed image function first (now ∷ outer) (slot ∷ now) Wants s m on_to_next d t) (Never s m) (full_expression program calls (either (either (gives 1) objects throws) (λ _. gives nothing) throws) s)
       unfolding init either gives throws make current_frame set_frame current_living set_living bound the_place the_variable
-      declaration_follows n told =
-          full_changes (image_step image) program calls (either (object program calls keep (scalar type) (λ p. either (bind slot (address p)) (λ _. init program calls (value a) p) throws)) (λ _. gives nothing) throws) n s (running_at m from []) of_completion
+      one_leaf_follows n told =
+          full_changes (image_step image) program calls (either (either (gives 1) objects throws) (λ _. gives nothing) throws) n s (running_at m from []) of_completion
           (λ (_ : Nothing) d t. (t.temporaries ≡ []) × Completed image function first (now ∷ outer) (slot ∷ now) Wants s m on_to_next d (record t { temporaries = s.temporaries })) (λ (_ : Nothing) d t. Completed image function first (now ∷ outer) (slot ∷ now) Wants s m on_to_next d t)
           (λ _ t d p. p)
           (follows_from (image_step image) n (record s { temporaries = [] }) bound (running_at m from []) of_completion (λ (_ : Nothing) d t. (t.temporaries ≡ []) × Completed image function first (now ∷ outer) (slot ∷ now) Wants s m on_to_next d (record t { temporaries = s.temporaries })) (λ e d t. ⊥) _ refl refl
           (follows_changes (image_step image) n bound (running_at m from []) of_completion (λ (_ : Nothing) d t. Written image function to bound with_object d t)
           (λ (_ : Nothing) d t. (t.temporaries ≡ []) × Completed image function first (now ∷ outer) (slot ∷ now) Wants s m on_to_next d (record t { temporaries = s.temporaries }))
-          (λ r. after (after (after r gives (λ e. either (end_lifetime s.next) (λ _. throws e) throws)) (λ _. either (keep (whole s.next (scalar type))) (λ _. gives s.next) throws) throws) (λ _. gives nothing) throws)
+          (λ r. after (after (after r gives (λ e. either (end_lifetime s.next) (λ _. throws e) throws)) (λ _. either (keep (whole s.next type)) (λ _. gives s.next) throws) throws) (λ _. gives nothing) throws)
           (either (used program calls a) (λ v. write the_place (Some v)) throws bound)
           (λ answer trace. refl)
-          (λ _ t d g. (nothing, record t { living = whole s.next (scalar type) ∷ t.living }, refl, refl, refl, refl, (g.same_temporaries, declared t d g)))
+          (λ _ t d g. (nothing, record t { living = whole s.next type ∷ t.living }, refl, refl, refl, refl, (g.same_temporaries, declared t d g)))
           (made_follows n told)))
+
+      one_leaf : (type : ObjectType) → IsSimple type → leaves_of_type program calls type ≡ gives 1
+      one_leaf (scalar t) h = refl
+      one_leaf pointer h = refl
+      one_leaf (class c) h = absurd h
+
+      pub declaration_follows : (n : ℕ) → s.begins ≡ begins_ahead (image_step image) n (running_at m from [])
+          → Follows (image_step image) n s (running_at m from []) of_completion (λ (_ : Nothing) d t. Completed image function first (now ∷ outer) (slot ∷ now) Wants s m on_to_next d t) (Never s m) (variable_of program calls slot type (init program calls (value a)) s)
+      declaration_follows n told =
+          subst (λ leaves. Follows (image_step image) n s (running_at m from []) of_completion (λ (_ : Nothing) d t. Completed image function first (now ∷ outer) (slot ∷ now) Wants s m on_to_next d t) (Never s m) (full_expression program calls (either (either leaves objects throws) (λ _. gives nothing) throws) s))
+          (sym (one_leaf type simple)) (one_leaf_follows n told)

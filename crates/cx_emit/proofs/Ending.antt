@@ -9,12 +9,12 @@ use Rattle.cx_code.specs.declared.run.Value.TheVariants as values
 use Rattle.cx_code.specs.Store as memory
 use Rattle.cx_code.specs.State.{State}
 use Rattle.cx_code.specs.Act.{next, on_slot, on_some, undefined, with_store}
-use Rattle.cx_core.specs.Tree.{scalar}
+use Rattle.cx_core.specs.Tree.{ObjectType, scalar, pointer, class}
 use Rattle.cx_core.specs.Program.{Program}
 use Rattle.cx_core.specs.Store.{without}
 use Rattle.cx_core.specs.Outcome as source
 use Rattle.cx_core.specs.Outcome.{Does, Living, whole, Nothing, nothing, either, gives, throws, spend, remove, current_living, set_living}
-use Rattle.cx_core.specs.Leaving.{Calls, end_each, scope}
+use Rattle.cx_core.specs.Leaving.{Calls, end, end_each, scope}
 use Rattle.cx_core.specs.Statements.{Completion}
 use Rattle.cx_core.proofs.Numbered.{numbered_without}
 use Rattle.cx_simulation.specs.Machine.{goes, begins_ahead}
@@ -23,10 +23,10 @@ use Rattle.cx_simulation.specs.Parts.{Account, Follows, StepsTo}
 use Rattle.cx_simulation.proofs.Parts.{follows_then, follows_either, follows_less, follows_gives, follows_from, follows_unit, follows_step, follows_changed, told_on}
 use Rattle.cx_emit.specs.Configuration.{running_at, Has}
 use Rattle.cx_emit.specs.Scopes.{StandsEnds}
-use Rattle.cx_emit.proofs.Expressions.{account}
+use Rattle.cx_emit.proofs.Valuing.{account}
 use Rattle.cx_emit.proofs.Asserting.{Never, at}
 use Rattle.cx_emit.proofs.Objects.{IsAlive, ended_alike, lives_alike, without_other}
-use Rattle.cx_emit.proofs.Scopes.{AllSame, all_same, Lives, lives_on, IsReady, IsIn, Completed, Departed}
+use Rattle.cx_emit.proofs.Scopes.{IsSimple, AllSame, all_same, Lives, lives_on, IsReady, IsIn, Completed, Departed}
 
 -- a statement asks for no more steps than its units pay for, but for what comes before its first unit: the jump to a loop, the making of an object
 abbrev pub of_completion : Account
@@ -111,6 +111,11 @@ module _ (image : Image) (function : ℕ) where
   module _ (program : Program) (calls : Calls) where
     -- ---- all objects of a scope
 
+    ends_so : (type : ObjectType) (object : ℕ) → IsSimple type → end program calls (whole object type) ≡ either (gives nothing) (λ _. either spend (λ _. remove object) throws) throws
+    ends_so (scalar t) object h = refl
+    ends_so pointer object h = refl
+    ends_so (class c) object h = absurd h
+
     ends_follow : (now : List ℕ) (living : List Living) (from to : ℕ) → StandsEnds image function now from to → (first upper : ℕ) (operands : List Value) (n : ℕ) (s : source.State) (m : State) → IsReady image function s m
         → Lives first upper s.store m.frame.slots now living → s.begins ≡ begins_ahead (image_step image) n (running_at m from operands)
         → Follows (image_step image) n s (running_at m from operands) of_completion (λ (_ : Nothing) d t. Ended first to operands s m d t) (Never s m) (end_each program calls living s)
@@ -119,12 +124,13 @@ module _ (image : Image) (function : ℕ) where
         follows_gives (image_step image) n s (running_at m from operands) of_completion (λ (_ : Nothing) d t. Ended first to operands s m d t) (Never s m) nothing (omega arith)
         (record { machine = m; is_there = ap (λ p. running_at m p operands) (sym st); ready = r; same_slots = refl; same_below = refl; same_next = refl; still_alive = λ n h alive. alive }) told
     ends_follow [] (l ∷ living) from to st first upper operands n s m r lives told = absurd lives
-    ends_follow (slot ∷ now) (whole object (scalar type) ∷ living) from to st first upper operands n s m r lives told =
-        follows_then (image_step image) n s (running_at m from operands) of_completion of_completion of_completion (λ (_ : Nothing) d t. Ended object st.1 operands s m d t) (λ (_ : Nothing) d t. Ended first to operands s m d t) (Never s m)
+    ends_follow (slot ∷ now) (whole object type ∷ living) from to st first upper operands n s m r lives told =
+        subst (λ part. Follows (image_step image) n s (running_at m from operands) of_completion (λ (_ : Nothing) d t. Ended first to operands s m d t) (Never s m) (either part (λ _. end_each program calls living) throws s)) (sym (ends_so type object lives.0))
+        (follows_then (image_step image) n s (running_at m from operands) of_completion of_completion of_completion (λ (_ : Nothing) d t. Ended object st.1 operands s m d t) (λ (_ : Nothing) d t. Ended first to operands s m d t) (Never s m)
         (either spend (λ _. remove object) throws) (λ _. end_each program calls living)
         (record { goes_on = omega arith; left_first = omega arith; left_second = omega arith; in_hand = omega arith })
-        (end_follows object s m r lives.3 operands from st.0 st.1 slot st.2 st.3 lives.0 n told)
-        (λ _ t d k g told. more (λ k t m r lives told. ends_follow now living st.1 to st.4 first object operands k t m r lives told) t d k g told)
+        (end_follows object s m r lives.4 operands from st.0 st.1 slot st.2 st.3 lives.1 n told)
+        (λ _ t d k g told. more (λ k t m r lives told. ends_follow now living st.1 to st.4 first object operands k t m r lives told) t d k g told))
       where
         more : ((k : ℕ) (t : source.State) (d : State) → IsReady image function t d → Lives first object t.store d.frame.slots now living → t.begins ≡ begins_ahead (image_step image) k (running_at d st.1 operands)
             → Follows (image_step image) k t (running_at d st.1 operands) of_completion (λ (_ : Nothing) e u. Ended first to operands t d e u) (Never t d) (end_each program calls living t))
@@ -134,9 +140,9 @@ module _ (image : Image) (function : ℕ) where
             subst (λ d. Follows (image_step image) k t d of_completion (λ (_ : Nothing) d t. Ended first to operands s m d t) (Never s m) (end_each program calls living t)) (sym g.is_there)
             (follows_less (image_step image) k t (running_at g.machine st.1 operands) of_completion of_completion (λ (_ : Nothing) d u. Ended first to operands t g.machine d u) (λ (_ : Nothing) d t. Ended first to operands s m d t) (Never t g.machine) (Never s m) (end_each program calls living t)
             (record { goes_on = omega arith; left = omega arith; in_hand = omega arith })
-            (λ _ e u b. ended_on first object to st.1 operands s t u m d e lives.1 g b) (λ e d t f. f)
+            (λ _ e u b. ended_on first object to st.1 operands s t u m d e lives.2 g b) (λ e d t f. f)
             (later k t g.machine g.ready
-            (lives_on first object object s.store t.store m.frame.slots (g.machine).frame.slots now living (omega arith) (all_same (now ∷ []) m.frame.slots (g.machine).frame.slots g.same_slots).0 g.still_alive lives.4)
+            (lives_on first object object s.store t.store m.frame.slots (g.machine).frame.slots now living (omega arith) (all_same (now ∷ []) m.frame.slots (g.machine).frame.slots g.same_slots).0 g.still_alive lives.5)
             (told ∙ ap (begins_ahead (image_step image) k) g.is_there)))
     ends_follow (slot ∷ now) living from to st first upper operands n s m r lives told = absurd lives
 

@@ -1,16 +1,12 @@
 -- Where code stands for a contract assertion the machine follows its evaluation.
-use Rattle.std.proofs.Common.{◌≡◌, ℕ, zero, ◌+◌, pos, List, [], ◌∷◌, Some, None, Bool, true, false, not, ◌&&◌, inl, inr, refl, sym, ap, ◌∙◌, subst, arith}
+use Rattle.std.proofs.Common.{◌≡◌, ℕ, zero, ◌+◌, List, [], ◌∷◌, Some, Bool, true, ◌&&◌, inl, inr, refl, sym, ap, ◌∙◌, subst, arith}
 use Rattle.std.specs.Prelude.{nat_eq, bytes_eq}
-use Rattle.std.specs.Ordering.{int_eq}
 use Rattle.std.proofs.lemmas.Slice.Eq.{bytes_eq-Decides}
 use Rattle.cx_code.specs.declared.image.Image.{Image}
 use Rattle.cx_code.specs.declared.operation.Operation.TheVariants as does
-use Rattle.cx_code.specs.declared.operation.Scalar.TheVariants as scalars
 use Rattle.cx_code.specs.declared.run.Value.{Value}
 use Rattle.cx_code.specs.declared.run.Value.TheVariants as values
-use Rattle.cx_code.specs.Arithmetic.{value_as}
 use Rattle.cx_code.specs.State.{State}
-use Rattle.cx_code.specs.Act.{next, on_some, mixed}
 use Rattle.cx_core.specs.Words.{Party, Definer, Caller, Semantic, Ignore, Observe, Enforce, QuickEnforce}
 use Rattle.cx_core.specs.Number.{truth_number}
 use Rattle.cx_core.specs.Event.{Evaluation, begin, same_evaluation, party_number, semantic_number}
@@ -25,15 +21,16 @@ use Rattle.cx_core.specs.Block.{Owed, evaluations, next_told, next_of, begin_tol
 use Rattle.cx_core.specs.Check.{truth, verdict_on, verdict_threw, evaluation}
 use Rattle.cx_core.specs.Meaning.{used, evaluated, owed, checked}
 use Rattle.cx_simulation.specs.Machine.{goes, begins_ahead}
-use Rattle.cx_simulation.specs.ImageMachine.{progress, image_step}
-use Rattle.cx_simulation.specs.Parts.{Follows, StepsTo, Steps}
-use Rattle.cx_simulation.proofs.Parts.{follows_then, follows_either, follows_one, follows_unit, follows_gives, follows_from, follows_nothing, follows_waiting, none_told, first_told}
-use Rattle.cx_emit.specs.Values.{IsValue}
+use Rattle.cx_simulation.specs.ImageMachine.{image_step}
+use Rattle.cx_simulation.specs.Parts.{Follows, Steps}
+use Rattle.cx_simulation.proofs.Parts.{follows_then, follows_either, follows_unit, follows_gives, follows_from, follows_nothing, follows_waiting, none_told, first_told}
 use Rattle.cx_emit.specs.Configuration.{running_at, Has, Agrees, AreKept, IsAt, Gives}
 use Rattle.cx_emit.specs.Checks.{IsAssertion, HaveDefaultHandler, StandsTruth, StandsViolated, StandsEvaluation, StandsCheck}
 use Rattle.cx_emit.specs.Laws.{of_operand, of_statement}
 use Rattle.cx_emit.proofs.Places.{all_kept, Valued}
-use Rattle.cx_emit.proofs.Expressions.{account, value_then, used_follows}
+use Rattle.cx_emit.proofs.Valuing.{account}
+use Rattle.cx_emit.proofs.Expressions.{used_follows}
+use Rattle.cx_emit.proofs.Deciding.{Judges, judges_follows}
 use Rattle.cx_emit.proofs.Asserting.{Never, never_on, is_at_on, step_to, at, from_place, verdict_follows}
 
 module _ (image : Image) (function : ℕ) (program : Program) (calls : Calls) where
@@ -94,32 +91,10 @@ module _ (image : Image) (function : ℕ) (program : Program) (calls : Calls) wh
 
   -- ---- a value that is converted to `bool`
 
-  abbrev Judges : ℕ → List Value → source.State → State → Bool → State → source.State → Type 0
-  Judges to operands s m b d t = IsAt function to (values.Number (truth_number b) ∷ operands) s m d t
-
-  truth_step : (from to : ℕ) → Has image function from (does.Convert scalars.Bool) to → (operands : List Value) (s : source.State) (m : State) → Agrees function s m → (w : Value) (b : Bool) → value_as scalars.Bool w ≡ Some (truth_number b)
-      → StepsTo (image_step image) s (running_at m from (w ∷ operands)) (λ d. Judges to operands s m b d s) s
-  truth_step from to h operands s m a w b e =
-      step_to image function s s m m from (from + 1) to (w ∷ operands) (values.Number (truth_number b) ∷ operands) None h.next
-      (at image function s m from (w ∷ operands) (does.Convert scalars.Bool) a h.here ∙ ap (λ r. progress image (on_some r mixed (λ z. next (running_at m from (w ∷ operands)) (values.Number z ∷ operands)))) e)
-      refl refl refl a s (all_kept s m)
-
-  truth_steps : (from to : ℕ) → Has image function from (does.Convert scalars.Bool) to → (operands : List Value) (s : source.State) (m : State) → Agrees function s m → (v : store.Value) (w : Value) → IsValue v w
-      → Steps (image_step image) s (running_at m from (w ∷ operands)) (Judges to operands s m) (Never s m) (truth v s)
-  unfolding gives ends
-  truth_steps from to h operands s m a (number x) w is = truth_step from to h operands s m a w (not (int_eq x (pos 0))) (ap (value_as scalars.Bool) is)
-  truth_steps from to h operands s m a (address x) w is = truth_step from to h operands s m a w true (ap (value_as scalars.Bool) is)
-  truth_steps from to h operands s m a null w is = truth_step from to h operands s m a w false (ap (value_as scalars.Bool) is)
-  truth_steps from to h operands s m a (violation x) w is = absurd is
-
   pub truth_follows : (a : Operand) (from to : ℕ) → StandsTruth image function a from to → (n : ℕ) (operands : List Value) (s : source.State) (m : State) → Agrees function s m → s.begins ≡ begins_ahead (image_step image) n (running_at m from operands)
-      → Follows (image_step image) n s (running_at m from operands) (account 11 0 0) (Judges to operands s m) (Never s m) (either (evaluated program calls a) truth throws s)
+      → Follows (image_step image) n s (running_at m from operands) (account 11 0 0) (Judges image function Never never_on to operands s m) (Never s m) (either (evaluated program calls a) truth throws s)
   truth_follows a from to st n operands =
-      value_then image function Never never_on of_operand (account 0 1 1) (account 11 0 0) (evaluated program calls a) truth from st.0 (Judges to operands)
-      (record { goes_on = omega arith; left_first = omega arith; left_second = omega arith; in_hand = omega arith })
-      (λ s t m d kept b e u x. is_at_on function to (values.Number (truth_number b) ∷ operands) s t m d kept e u x)
-      (full_follows (used program calls a) from st.0 (used_follows image function Never never_on program calls a from st.0 st.1)) operands
-      (λ v w is k s m a told. follows_one (image_step image) k s (running_at m st.0 (w ∷ operands)) (account 0 1 1) (Judges to operands s m) (Never s m) (truth v s) (omega arith) (omega arith) told (truth_steps st.0 to st.2 operands s m a v w is)) n
+      judges_follows image function Never never_on (evaluated program calls a) from st.0 to (full_follows (used program calls a) from st.0 (used_follows image function Never never_on program calls a from st.0 st.1)) st.2 n operands
 
   -- ---- an evaluation
 
@@ -135,7 +110,7 @@ module _ (image : Image) (function : ℕ) (program : Program) (calls : Calls) wh
         → (n : ℕ) (operands : List Value) (s : source.State) (m : State) → Agrees function s m → s.begins ≡ begins_ahead (image_step image) n (running_at m from operands)
         → Follows (image_step image) n s (running_at m from operands) of_statement (Effect to operands s m) (Never s m) (evaluation program calls c (evaluated program calls c.predicate) s)
     evaluation_follows from p r v to first second third fourth n operands s m a told =
-        follows_either (image_step image) n s (running_at m from operands) (account 11 0 0) (account 0 4 4) of_statement of_statement (Judges p operands s m) (Effect to operands s m) (Never s m) (Never s m)
+        follows_either (image_step image) n s (running_at m from operands) (account 11 0 0) (account 0 4 4) of_statement of_statement (Judges image function Never never_on p operands s m) (Effect to operands s m) (Never s m) (Never s m)
         (either (evaluated program calls c.predicate) truth throws) (verdict_on program calls c.assertion c.semantic) (verdict_threw program calls c.assertion c.semantic)
         (record { goes_on = omega arith; left_first = omega arith; left_second = omega arith; in_hand = omega arith }) (record { goes_on = omega arith; left = omega arith; in_hand = omega arith })
         (truth_follows c.predicate from p first n operands s m a told)

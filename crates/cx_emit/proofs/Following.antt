@@ -3,7 +3,7 @@ use Rattle.std.proofs.Common.{◌≡◌, ℕ, List, [], ◌∷◌, Some, false, 
 use Rattle.cx_code.specs.declared.image.Image.{Image}
 use Rattle.cx_code.specs.declared.operation.Operation.TheVariants as does
 use Rattle.cx_code.specs.State.{State}
-use Rattle.cx_core.specs.Tree.{scalar, Operand, value, Stmt, Stmts, empty, expression, variable_declaration, block, if_else, while_loop, for_loop, Condition, while, contract_assert, return_value, done, next}
+use Rattle.cx_core.specs.Tree.{scalar, pointer, Operand, value, Stmt, Stmts, empty, expression, variable_declaration, reference_declaration, block, if_else, while_loop, for_loop, Condition, while, contract_assert, return_value, done, next}
 use Rattle.cx_core.specs.Tree as tree
 use Rattle.cx_core.specs.Program.{Program}
 use Rattle.cx_core.specs.Outcome as source
@@ -125,6 +125,11 @@ module _ (image : Image) (function : ℕ) (program : Program) (calls : Calls) (d
     stmt_follows (variable_declaration slot (scalar type) (value a)) around now from to st =
         stated_so image function program calls default around now (slot ∷ now) (stmt program calls (variable_declaration slot (scalar type) (value a))) from to
         (simple_follows image function program calls default around now (variable_declaration slot (scalar type) (value a)) from to refl st)
+    stmt_follows (variable_declaration slot pointer (value a)) around now from to st =
+        stated_so image function program calls default around now (slot ∷ now) (stmt program calls (variable_declaration slot pointer (value a))) from to
+        (simple_follows image function program calls default around now (variable_declaration slot pointer (value a)) from to refl st)
+    stmt_follows (reference_declaration slot e) around now from to st =
+        stated_so image function program calls default around now now (stmt program calls (reference_declaration slot e)) from to (simple_follows image function program calls default around now (reference_declaration slot e) from to refl st)
     stmt_follows (block b) around now from to st = block_follows image function program calls default around now (stmts program calls b) from to (stmts_follows b (inside around now) [] from to st)
     stmt_follows (if_else c a b) around now from to st =
         choice_follows image function around now program calls c (stmt program calls a) (stmt program calls b) from st.2 st.3 st.4 to st.5 st.7

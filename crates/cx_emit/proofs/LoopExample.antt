@@ -80,18 +80,31 @@ code = record {
   slots = 2;
   result = true;
   code =
+      -- x is declared
       i 9 1 0 ∷ i 7 0 0 ∷ i 1 0 0 ∷ i 12 0 0
+      -- x < 3
       ∷ i 35 5 0 ∷ i 7 0 0 ∷ i 11 0 0 ∷ i 1 0 3 ∷ i 30 0 0 ∷ i 34 1 0 ∷ i 36 44 0
+      -- y is declared
       ∷ i 9 1 1 ∷ i 7 1 0 ∷ i 7 0 0 ∷ i 11 0 0 ∷ i 1 0 1 ∷ i 18 3 0 ∷ i 12 0 0
+      -- 2 < y
       ∷ i 1 0 2 ∷ i 7 1 0 ∷ i 11 0 0 ∷ i 30 0 0 ∷ i 34 1 0 ∷ i 36 31 0
+      -- y is returned, after y and x have ended
       ∷ i 7 1 0 ∷ i 11 0 0 ∷ i 7 1 0 ∷ i 10 0 0 ∷ i 7 0 0 ∷ i 10 0 0 ∷ i 35 75 0
+      -- y is written
       ∷ i 7 1 0 ∷ i 11 0 0 ∷ i 35 34 0 ∷ i 41 0 0 ∷ i 5 0 0
+      -- x is set
       ∷ i 7 1 0 ∷ i 11 0 0 ∷ i 7 0 0 ∷ i 6 0 0 ∷ i 12 0 0
+      -- y ends, and the next turn begins
       ∷ i 7 1 0 ∷ i 10 0 0 ∷ i 35 5 0
+      -- z is declared
       ∷ i 9 1 1 ∷ i 7 1 0 ∷ i 1 0 0 ∷ i 12 0 0
+      -- z < 2
       ∷ i 35 49 0 ∷ i 7 1 0 ∷ i 11 0 0 ∷ i 1 0 2 ∷ i 30 0 0 ∷ i 34 1 0 ∷ i 36 70 0
+      -- z is tested, the loop continued or left
       ∷ i 7 1 0 ∷ i 11 0 0 ∷ i 34 1 0 ∷ i 36 60 0 ∷ i 35 61 0 ∷ i 35 70 0
+      -- ++z, and the next turn begins
       ∷ i 7 1 0 ∷ i 4 0 0 ∷ i 11 0 0 ∷ i 34 3 0 ∷ i 1 0 1 ∷ i 18 3 0 ∷ i 34 3 0 ∷ i 12 0 0 ∷ i 35 49 0
+      -- z and x end, and 0 is returned
       ∷ i 7 1 0 ∷ i 10 0 0 ∷ i 7 0 0 ∷ i 10 0 0 ∷ i 1 0 0 ∷ i 39 0 0 ∷ [];
   regions = [];
 }

@@ -1,24 +1,25 @@
--- Where code stands for a call of `putchar` the machine follows it.
-use Rattle.std.proofs.Common.{◌≡◌, ℕ, ◌+◌, ◌-◌, ℤ, pos, List, [], ◌∷◌, Some, None, refl, sym, ap, ◌∙◌, subst, arith}
+-- Where code stands for a call of `putchar` or `getchar` the machine follows it.
+use Rattle.std.proofs.Common.{◌≡◌, ℕ, ◌+◌, ◌-◌, ℤ, pos, negsuc, List, [], ◌∷◌, Some, None, refl, sym, ap, ◌∙◌, subst, arith}
 use Rattle.cx_code.specs.declared.image.Image.{Image}
 use Rattle.cx_code.specs.declared.operation.Operation.TheVariants as does
 use Rattle.cx_code.specs.declared.run.Value.{Value}
 use Rattle.cx_code.specs.declared.run.Value.TheVariants as values
 use Rattle.cx_code.specs.State.{State}
-use Rattle.cx_core.specs.Event.{out}
+use Rattle.cx_code.specs.Act.{read}
+use Rattle.cx_core.specs.Event.{out, input, input_end}
 use Rattle.cx_core.specs.Store as store
 use Rattle.cx_core.specs.Store.{number, address, null, violation}
 use Rattle.cx_core.specs.Outcome as source
 use Rattle.cx_core.specs.Outcome.{Does, Nothing, nothing, either, gives, throws, ends, some, spend, append}
 use Rattle.cx_core.specs.Operators.{number_of}
-use Rattle.cx_core.specs.Library.{byte_of, write_bytes}
+use Rattle.cx_core.specs.Library.{byte_of, write_bytes, read_byte, next_byte}
 use Rattle.cx_simulation.specs.Machine.{begins_ahead}
-use Rattle.cx_simulation.specs.ImageMachine.{image_step}
+use Rattle.cx_simulation.specs.ImageMachine.{progress, image_step}
 use Rattle.cx_simulation.specs.Parts.{Account, Follows, StepsTo}
 use Rattle.cx_simulation.proofs.Parts.{follows_then, follows_gives, follows_unit, follows_spend, follows_step, told_on}
 use Rattle.cx_emit.specs.Values.{IsValue}
 use Rattle.cx_emit.specs.Configuration.{running_at, operation_at, Has, Agrees, Gives}
-use Rattle.cx_emit.proofs.Places.{at_place, jumps_to}
+use Rattle.cx_emit.proofs.Places.{at_place, jumps_to, PutsValue}
 
 module _ (image : Image) (function : ℕ) (Fly : source.State → State → source.Exception → State → source.State → Type 0) where
   -- the byte is written, and the second unit is the step's
@@ -89,3 +90,47 @@ module _ (image : Image) (function : ℕ) (Fly : source.State → State → sour
     writes (address x) w is n s m a told = record { comes = λ other. absurd (other refl) }
     writes null w is n s m a told = record { comes = λ other. absurd (other refl) }
     writes (violation x) w is n s m a told = absurd is
+
+  -- the next byte is read, or the end of the input
+  pub read_steps : (s : source.State) (m : State) (budget from to : ℕ) (operands : List Value) → Agrees function s m → Has image function from does.In to → PutsValue image function Fly s m budget from to operands operands (next_byte (record s { budget = budget }))
+  unfolding next_byte
+  read_steps s m budget from to operands a h = by_input s.input refl
+    where
+      reads : (bytes : List ℕ) → s.input ≡ bytes → image_step image (running_at m from operands) ≡ progress image (read (running_at m from operands) bytes)
+      reads bytes e = at_place image function Fly s m from to operands does.In a h ∙ ap (λ bytes. progress image (read (running_at m from operands) bytes)) (a.same_input ∙ e)
+
+      by_input : (bytes : List ℕ) → s.input ≡ bytes → PutsValue image function Fly s m budget from to operands operands (read_byte bytes (record s { budget = budget }))
+      by_input [] e =
+          record {
+            to = running_at m (from + 1) (values.Number (negsuc 0) ∷ operands);
+            event = Some input_end;
+            goes_so = reads [] e;
+            noted_so = refl;
+            begun_so = refl;
+            same_budget = refl;
+            stands = record {
+              machine = m;
+              value = values.Number (negsuc 0);
+              is_there = ap (λ p. running_at m p (values.Number (negsuc 0) ∷ operands)) (sym h.next);
+              same_value = refl;
+              agrees = record { in_function = a.in_function; same_store = a.same_store; same_next = a.same_next; same_input = a.same_input; same_names = a.same_names };
+              kept = record { same_frame = refl; same_store = refl; same_number = refl; same_living = refl; same_temporaries = refl; same_held = refl; same_slots = refl; same_pending = refl; same_below = refl; same_exceptions = refl };
+            };
+          }
+      by_input (byte ∷ rest) e =
+          record {
+            to = running_at (record m { input = rest }) (from + 1) (values.Number (pos byte) ∷ operands);
+            event = Some (input byte);
+            goes_so = reads (byte ∷ rest) e;
+            noted_so = refl;
+            begun_so = refl;
+            same_budget = refl;
+            stands = record {
+              machine = record m { input = rest };
+              value = values.Number (pos byte);
+              is_there = ap (λ p. running_at (record m { input = rest }) p (values.Number (pos byte) ∷ operands)) (sym h.next);
+              same_value = refl;
+              agrees = record { in_function = a.in_function; same_store = a.same_store; same_next = a.same_next; same_input = refl; same_names = a.same_names };
+              kept = record { same_frame = refl; same_store = refl; same_number = refl; same_living = refl; same_temporaries = refl; same_held = refl; same_slots = refl; same_pending = refl; same_below = refl; same_exceptions = refl };
+            };
+          }

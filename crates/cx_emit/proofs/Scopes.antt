@@ -6,7 +6,7 @@ use Rattle.cx_code.specs.declared.run.Value.{Value}
 use Rattle.cx_code.specs.declared.run.Value.TheVariants as values
 use Rattle.cx_code.specs.State.{State}
 use Rattle.cx_core.specs.Laws.{IsNumbered}
-use Rattle.cx_core.specs.Tree.{scalar}
+use Rattle.cx_core.specs.Tree.{ObjectType, scalar, pointer, class}
 use Rattle.cx_core.specs.Store.{Store, leaves_of}
 use Rattle.cx_core.specs.Outcome as source
 use Rattle.cx_core.specs.Outcome.{Living, whole}
@@ -44,20 +44,26 @@ all_then (slots ∷ scopes) old mid new a b = (same_then slots old mid new a.0 b
 
 -- ---- the objects of a scope
 
+-- of one leaf, which nothing is called for where it ends
+abbrev pub IsSimple : ObjectType → Type 0
+IsSimple (scalar type) = Unit {0}
+IsSimple pointer = Unit {0}
+IsSimple (class c) = ⊥
+
 -- they live, and their places stand in these slots; each has a greater number than those before it, of which the first one is known
 abbrev pub Lives : (first upper : ℕ) → Store → List (Option Value) → List ℕ → List Living → Type 0
 Lives first upper store slots [] [] = Unit {0}
 Lives first upper store slots [] (l ∷ living) = ⊥
-Lives first upper store slots (slot ∷ now) (whole n (scalar type) ∷ living) =
-    (slice_get slots slot ≡ Some (Some (values.Address n 0))) × (first ≤ n) × (n < upper) × IsAlive store n × Lives first n store slots now living
+Lives first upper store slots (slot ∷ now) (whole n type ∷ living) =
+    IsSimple type × (slice_get slots slot ≡ Some (Some (values.Address n 0))) × (first ≤ n) × (n < upper) × IsAlive store n × Lives first n store slots now living
 Lives first upper store slots (slot ∷ now) living = ⊥
 
 pub lives_on : (first upper more : ℕ) (old new : Store) (before after : List (Option Value)) (now : List ℕ) (living : List Living) → upper ≤ more → AreSame now before after → ((n : ℕ) → n < upper → IsAlive old n → IsAlive new n)
     → Lives first upper old before now living → Lives first more new after now living
 lives_on first upper more old new before after [] [] le same alive h = tt {0}
 lives_on first upper more old new before after [] (l ∷ living) le same alive h = absurd h
-lives_on first upper more old new before after (slot ∷ now) (whole n (scalar type) ∷ living) le same alive h =
-    (same.0 ∙ h.0, h.1, omega (arith, h.2, le), alive n h.2 h.3, lives_on first n n old new before after now living (omega arith) same.1 (λ k l. alive k (omega (arith, l, h.2))) h.4)
+lives_on first upper more old new before after (slot ∷ now) (whole n type ∷ living) le same alive h =
+    (h.0, same.0 ∙ h.1, h.2, omega (arith, h.3, le), alive n h.3 h.4, lives_on first n n old new before after now living (omega arith) same.1 (λ k l. alive k (omega (arith, l, h.3))) h.5)
 lives_on first upper more old new before after (slot ∷ now) living le same alive h = absurd h
 
 -- ---- statements

@@ -40,7 +40,7 @@ use Rattle.cx_emit.specs.Configuration.{running_at, operation_at, AreNamed, Agre
 use Rattle.cx_emit.specs.Checks.{GoesOn, HaveDefaultHandler}
 use Rattle.cx_emit.specs.Scopes.{Loop, around_body, slots_in, StandsEnds}
 use Rattle.cx_emit.specs.Units.{IsMain, StandsMain, HaveGlobals, no_checks, ImagesOfMainAreFaithful}
-use Rattle.cx_emit.proofs.Expressions.{account}
+use Rattle.cx_emit.proofs.Valuing.{account}
 use Rattle.cx_emit.proofs.Asserting.{Never, at, goes_on}
 use Rattle.cx_emit.proofs.Scopes.{IsReady, Departs, Departed}
 use Rattle.cx_emit.proofs.Ending.{of_completion, scope_follows}

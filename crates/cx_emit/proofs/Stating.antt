@@ -5,14 +5,14 @@ use Rattle.cx_code.specs.declared.operation.Operation.TheVariants as does
 use Rattle.cx_code.specs.declared.run.Value.{Value}
 use Rattle.cx_code.specs.State.{State}
 use Rattle.cx_core.specs.Words.{Definer}
-use Rattle.cx_core.specs.Tree.{scalar, Check, Expr, assign, prefix_step, postfix_step, Operand, value, Stmt, empty, expression, variable_declaration}
+use Rattle.cx_core.specs.Tree.{ObjectType, scalar, pointer, Check, Expr, assign, prefix_step, postfix_step, Operand, value, Stmt, empty, expression, variable_declaration, reference_declaration}
 use Rattle.cx_core.specs.Program.{Program}
 use Rattle.cx_core.specs.Store as store
 use Rattle.cx_core.specs.Outcome as source
 use Rattle.cx_core.specs.Outcome.{on, over, Does, Nothing, nothing, after, either, gives, throws, current_frame}
 use Rattle.cx_core.specs.Leaving.{Calls, scope, full_expression}
 use Rattle.cx_core.specs.Operators.{assignment, prefix_operation, postfix_operation}
-use Rattle.cx_core.specs.Statements.{Completion, on_to_next, return, completed, variable_of}
+use Rattle.cx_core.specs.Statements.{Completion, on_to_next, return, completed, variable_of, reference_of}
 use Rattle.cx_core.specs.Meaning.{expr, used, init, checked, result_stored, stmt}
 use Rattle.cx_simulation.specs.Machine.{begins_ahead}
 use Rattle.cx_simulation.specs.ImageMachine.{image_step}
@@ -23,17 +23,19 @@ use Rattle.cx_emit.specs.Configuration.{running_at, Has, Agrees, IsAt, Gives}
 use Rattle.cx_emit.specs.Checks.{HaveDefaultHandler, StandsCheck}
 use Rattle.cx_emit.specs.Stands.{StandsExpr, StandsOperand}
 use Rattle.cx_emit.specs.Scopes.{Surroundings, inside, StandsExit}
-use Rattle.cx_emit.specs.Statements.{behind, goes_on, StandsDiscarded, StandsStmt}
+use Rattle.cx_emit.specs.Statements.{behind, goes_on, StandsDiscarded, StandsDeclaration, StandsStmt}
 use Rattle.cx_emit.specs.Laws.{of_expression, of_operand, of_statement}
 use Rattle.cx_emit.proofs.Places.{all_kept}
-use Rattle.cx_emit.proofs.Expressions.{account, value_then, expr_follows, used_follows}
+use Rattle.cx_emit.proofs.Valuing.{account, value_then}
+use Rattle.cx_emit.proofs.Expressions.{expr_follows, used_follows}
 use Rattle.cx_emit.proofs.Asserting.{Never, never_on, is_at_on, step_to, at}
 use Rattle.cx_emit.proofs.Evaluating.{check_follows, full_follows}
-use Rattle.cx_emit.proofs.Scopes.{IsReady, IsIn, all_left, Reaches, Departs, departs_so, Carries, Completed, Departed, departed_in}
+use Rattle.cx_emit.proofs.Scopes.{IsSimple, IsReady, IsIn, all_left, Reaches, Departs, departs_so, Carries, Completed, Departed, departed_in}
 use Rattle.cx_emit.proofs.Ending.{of_completion, scope_follows}
 use Rattle.cx_emit.proofs.Storing.{full_changes, with_temporaries, Written, assign_follows}
 use Rattle.cx_emit.proofs.Stepping.{prefix_follows, postfix_follows}
 use Rattle.cx_emit.proofs.Declaring.{declaration_follows}
+use Rattle.cx_emit.proofs.Referring.{reference_follows}
 use Rattle.cx_emit.proofs.Completing.{Stated, AllStated, completed_so, placed, written_there, given_there}
 
 module _ (image : Image) (function : ℕ) (program : Program) (calls : Calls) (default : HaveDefaultHandler image program) where
@@ -125,14 +127,22 @@ module _ (image : Image) (function : ℕ) (program : Program) (calls : Calls) (d
         stored_follows (postfix_operation operator type (expr program calls a)) from to (λ n s m r told. postfix_follows image function operator type st.0 to st.2 program calls a from st.1 n s m r told)
     discarded_follows e from to st = dropped_follows e from st.0 to st.1 st.2
 
+    declared_follows : (slot : ℕ) (type : ObjectType) → IsSimple type → (a : Operand) (from to : ℕ) → StandsDeclaration image function (now ∷ around.scopes) slot a from to
+        → GoesOnTo (slot ∷ now) (completed (variable_of program calls slot type (init program calls (value a)))) from to
+    declared_follows slot type simple a from to st =
+        completed_follows (slot ∷ now) (variable_of program calls slot type (init program calls (value a))) from to
+        (λ first n s m i told. declaration_follows image function program calls (now ∷ around.scopes) slot type simple a from to st s m i.ready first now around.scopes refl i (λ c p. p ≡ to) refl n told)
+
     pub simple_follows : (a : Stmt) (from to : ℕ) → goes_on a ≡ true → StandsStmt image function around now a from to → GoesOnTo (behind a now) (stmt program calls a) from to
     unfolding stmt StandsStmt
     simple_follows empty from to e st = empty_follows from to st
     simple_follows (expression x) from to e st = completed_follows now (either (full_expression program calls (expr program calls x)) (λ _. gives nothing) throws) from to (discarded_follows x from to st)
-    simple_follows (variable_declaration slot (scalar type) (value a)) from to e st =
-        completed_follows (slot ∷ now) (variable_of program calls slot (scalar type) (init program calls (value a))) from to
-        (λ first n s m i told. declaration_follows image function program calls (now ∷ around.scopes) slot type a from to st s m i.ready first now around.scopes refl i (λ c p. p ≡ to) refl n told)
+    simple_follows (variable_declaration slot (scalar type) (value a)) from to e st = declared_follows slot (scalar type) (tt {0}) a from to st
+    simple_follows (variable_declaration slot pointer (value a)) from to e st = declared_follows slot pointer (tt {0}) a from to st
     simple_follows (variable_declaration slot type init) from to e st = absurd st
+    simple_follows (reference_declaration slot e) from to g st =
+        completed_follows now (reference_of program calls slot (expr program calls e)) from to
+        (λ first n s m i told. reference_follows image function program calls (now ∷ around.scopes) slot e from to st first now around.scopes refl (λ c p. p ≡ to) refl n s m i told)
     simple_follows other from to e st = absurd cc
 
     -- ---- contract assertions and returned values

@@ -25,18 +25,19 @@ use Rattle.cx_core.specs.Meaning.{expr}
 use Rattle.cx_simulation.specs.Machine.{goes, begins_ahead}
 use Rattle.cx_simulation.specs.ImageMachine.{image_step}
 use Rattle.cx_simulation.specs.Parts.{Account, Follows}
-use Rattle.cx_simulation.proofs.Parts.{follows_less, follows_one, follows_step, follows_unit_then, told_on}
+use Rattle.cx_simulation.proofs.Parts.{follows_one, follows_step, told_on}
 use Rattle.cx_simulation.proofs.Changes.{follows_changes}
 use Rattle.cx_emit.specs.Values.{IsValue}
-use Rattle.cx_emit.specs.Configuration.{running_at, operation_at, AreKept, Gives}
+use Rattle.cx_emit.specs.Configuration.{running_at, operation_at, Gives}
 use Rattle.cx_emit.specs.Operations.{binary_operation}
 use Rattle.cx_emit.specs.Stands.{StandsExpr, StandsNumberLoad}
 use Rattle.cx_emit.specs.Statements.{StandsStep}
 use Rattle.cx_emit.specs.Laws.{of_expression}
-use Rattle.cx_emit.proofs.Places.{has_some, with_budget}
+use Rattle.cx_emit.proofs.Places.{has_some}
 use Rattle.cx_emit.proofs.Operators.{binary_steps}
 use Rattle.cx_emit.proofs.Operands.{read_follows, conversion_follows}
-use Rattle.cx_emit.proofs.Expressions.{account, expr_follows}
+use Rattle.cx_emit.proofs.Valuing.{account, unit_then}
+use Rattle.cx_emit.proofs.Expressions.{expr_follows}
 use Rattle.cx_emit.proofs.Asserting.{Never, never_on, at}
 use Rattle.cx_emit.proofs.Scopes.{IsReady, kept_ready}
 use Rattle.cx_emit.proofs.Ending.{of_completion}
@@ -186,34 +187,10 @@ module _ (image : Image) (function : ℕ) (operator : BinaryOperator) (type : In
     unit_follows : (v : store.Value) (w : Value) → IsValue v w → (n : ℕ) (s : source.State) (m : State) → IsReady image function s m → s.begins ≡ begins_ahead (image_step image) n (running_at m from (w ∷ []))
         → Follows (image_step image) n s (running_at m from (w ∷ [])) (account 24 0 0) (λ (_ : store.Value) d t. Written image function to s m d t) (Never s m) (either spend (λ _. part v) throws s)
     unit_follows v w is n s m r told =
-        follows_unit_then (image_step image) n s (running_at m from (w ∷ [])) (account 31 0 0) (account 0 7 7) (account 24 0 0) Doubled (λ (_ : store.Value) d t. Written image function to s m d t) (Never s m) (part v)
-        (record { goes_on = omega arith; left_first = omega arith; left_second = omega arith; in_hand = omega arith }) (omega arith) told
-        (λ left. record {
-          to = running_at m st.0 (w ∷ w ∷ []);
-          event = None;
-          goes_so = at image function s m from (w ∷ []) does.Duplicate r.agrees (st.6).here ∙ ap (λ p. goes (running_at m p (w ∷ w ∷ [])) None) (sym (st.6).next);
-          noted_so = refl;
-          begun_so = refl;
-          same_budget = refl;
-          stands = (left, refl, refl);
-        })
-        (λ t d k p told. doubled t d k p told)
-      where
-        Doubled : State → source.State → Type 0
-        Doubled d t = (left : ℕ) × (d ≡ running_at m st.0 (w ∷ w ∷ [])) × (t ≡ record s { budget = left })
-
-        spent : (left : ℕ) → AreKept s m (record s { budget = left }) m
-        spent left = record { same_frame = refl; same_store = refl; same_number = refl; same_living = refl; same_temporaries = refl; same_held = refl; same_slots = refl; same_pending = refl; same_below = refl; same_exceptions = refl }
-
-        doubled : (t : source.State) (d : State) (k : ℕ) → Doubled d t → t.begins ≡ begins_ahead (image_step image) k d → Follows (image_step image) k t d (account 0 7 7) (λ (_ : store.Value) d t. Written image function to s m d t) (Never s m) (part v t)
-        doubled t d k p told =
-            subst (λ d. Follows (image_step image) k t d (account 0 7 7) (λ (_ : store.Value) d t. Written image function to s m d t) (Never s m) (part v t)) (sym p.1)
-            (subst (λ t. t.begins ≡ begins_ahead (image_step image) k (running_at m st.0 (w ∷ w ∷ [])) → Follows (image_step image) k t (running_at m st.0 (w ∷ w ∷ [])) (account 0 7 7) (λ (_ : store.Value) d t. Written image function to s m d t) (Never s m) (part v t)) (sym p.2)
-            (λ told. follows_less (image_step image) k (record s { budget = p.0 }) (running_at m st.0 (w ∷ w ∷ [])) (account 0 7 7) (account 0 7 7) (λ (_ : store.Value) e u. Written image function to (record s { budget = p.0 }) m e u) (λ (_ : store.Value) d t. Written image function to s m d t)
-            (Never (record s { budget = p.0 }) m) (Never s m) (part v (record s { budget = p.0 })) (record { goes_on = omega arith; left = omega arith; in_hand = omega arith })
-            (λ _ e u b. written_on image function to s (record s { budget = p.0 }) u m m e (spent p.0) b) (λ e d t f. f)
-            (does_so v w is k (record s { budget = p.0 }) m (kept_ready image function s (record s { budget = p.0 }) m m r (spent p.0) (with_budget image function Never s m p.0 r.agrees)) told))
-            (told ∙ ap (begins_ahead (image_step image) k) p.1))
+        unit_then image function Never never_on (λ s m (_ : store.Value) d t. Written image function to s m d t) (λ s t m d kept _ e u b. written_on image function to s t u m d e kept b) (account 0 7 7) (account 24 0 0) (part v) from st.0 (w ∷ []) (w ∷ w ∷ [])
+        (record { goes_on = omega arith; left_first = omega arith; left_second = omega arith; in_hand = omega arith }) n s m r.agrees told
+        (at image function s m from (w ∷ []) does.Duplicate r.agrees (st.6).here ∙ ap (λ p. goes (running_at m p (w ∷ w ∷ [])) None) (sym (st.6).next))
+        (λ k t agrees kept told. does_so v w is k t m (kept_ready image function s t m m r kept agrees) told)
 
     pub stepped_follows : (a : Expr) (start : ℕ) → StandsExpr image function a start from → (n : ℕ) (s : source.State) (m : State) → IsReady image function s m → s.begins ≡ begins_ahead (image_step image) n (running_at m start [])
         → Follows (image_step image) n s (running_at m start []) of_completion (λ (_ : store.Value) d t. Written image function to s m d t) (Never s m) (either (expr program calls a) (λ v. either spend (λ _. part v) throws) throws s)

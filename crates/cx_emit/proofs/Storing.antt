@@ -32,7 +32,8 @@ use Rattle.cx_emit.specs.Values.{IsValue}
 use Rattle.cx_emit.specs.Configuration.{running_at, Has, AreKept, Gives}
 use Rattle.cx_emit.specs.Statements.{StandsDiscarded}
 use Rattle.cx_emit.specs.Laws.{of_operand, of_expression}
-use Rattle.cx_emit.proofs.Expressions.{account, expr_follows, used_follows}
+use Rattle.cx_emit.proofs.Valuing.{account}
+use Rattle.cx_emit.proofs.Expressions.{expr_follows, used_follows}
 use Rattle.cx_emit.proofs.Asserting.{Never, never_on, at}
 use Rattle.cx_emit.proofs.Objects.{IsAlive, StoresAs, keeps, stored_alike, written_keeps, alive_with}
 use Rattle.cx_emit.proofs.Scopes.{IsReady, kept_ready}

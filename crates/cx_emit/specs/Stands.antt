@@ -7,7 +7,7 @@ use Rattle.cx_code.specs.declared.operation.Scalar.TheVariants as scalars
 use Rattle.cx_core.specs.declared.number.IntegerType.{IntegerType}
 use Rattle.cx_core.specs.declared.number.IntegerType.TheVariants as types
 use Rattle.cx_core.specs.Operators.{integer_of}
-use Rattle.cx_core.specs.Tree.{ObjectType, scalar, pointer, class, Constant, number, nullptr, Expr, literal, variable, global, unary, binary, putchar, Operand, operand}
+use Rattle.cx_core.specs.Tree.{ObjectType, scalar, pointer, class, Constant, number, nullptr, Expr, literal, variable, global, unary, binary, logical_and, logical_or, conditional, cast, indirection, putchar, getchar, Operand, operand}
 use Rattle.cx_emit.specs.Configuration.{operation_at, Has}
 use Rattle.cx_emit.specs.Operations.{scalar_of, unary_operation, binary_operation}
 
@@ -49,8 +49,25 @@ module _ (image : Image) (function : ℕ) where
     StandsExpr (global index) from to = Has image function from (does.Global index) to
     StandsExpr (unary operator type a) from to = (p : ℕ) × StandsOperand a from p × HasSome p (unary_operation operator type) to
     StandsExpr (binary operator type a b) from to = (p q : ℕ) × StandsOperand a from p × StandsOperand b p q × HasSome q (binary_operation operator type) to
+    -- the jump by the left operand's truth stands for the unit
+    StandsExpr (logical_and a b) from to =
+        (p q r s t other : ℕ) × StandsOperand a from p × Has image function p (does.Convert scalars.Bool) q × Has image function q (does.JumpZero other) r
+        × StandsOperand b r s × Has image function s (does.Convert scalars.Bool) t × (operation_at image function t ≡ Some (does.Jump to)) × Has image function other (does.Push (pos 0)) to
+    StandsExpr (logical_or a b) from to =
+        (p q r s t other : ℕ) × StandsOperand a from p × Has image function p (does.Convert scalars.Bool) q × Has image function q (does.JumpNonzero other) r
+        × StandsOperand b r s × Has image function s (does.Convert scalars.Bool) t × (operation_at image function t ≡ Some (does.Jump to)) × Has image function other (does.Push (pos 1)) to
+    StandsExpr (conditional a b c) from to =
+        (p q r s other : ℕ) × StandsOperand a from p × Has image function p (does.Convert scalars.Bool) q × Has image function q (does.JumpZero other) r
+        × StandsOperand b r s × (operation_at image function s ≡ Some (does.Jump to)) × StandsOperand c other to
+    -- a jump to the next place stands for the unit
+    StandsExpr (cast a) from to = (p : ℕ) × StandsOperand a from p × (operation_at image function p ≡ Some (does.Jump to))
+    -- the place that a pointer points to; a null pointer is read, which is undefined
+    StandsExpr (indirection a) from to =
+        (p q r s : ℕ) × StandsOperand a from p × Has image function p does.Duplicate q × Has image function q (does.Convert scalars.Bool) r × Has image function r (does.JumpNonzero to) s
+        × (operation_at image function s ≡ Some does.Load)
     -- two units, of which the jump to the next place stands for the one
     StandsExpr (putchar a) from to = (p q : ℕ) × StandsOperand a from p × (operation_at image function p ≡ Some (does.Jump q)) × Has image function q does.Out to
+    StandsExpr getchar from to = Has image function from does.In to
     StandsExpr other from to = ⊥
 
     pub StandsOperand : Operand → ℕ → ℕ → Type 0

@@ -6,7 +6,7 @@ use Rattle.cx_core.specs.declared.number.IntegerType.{IntegerType}
 use Rattle.cx_core.specs.declared.number.BinaryOperator.{BinaryOperator}
 use Rattle.cx_core.specs.Words.{Definer}
 use Rattle.cx_core.specs.Number.{promoted}
-use Rattle.cx_core.specs.Tree.{scalar, Expr, assign, prefix_step, postfix_step, Operand, value, Stmt, Stmts, empty, expression, variable_declaration, block, if_else, while_loop, for_loop, Condition, always, while, break, continue, contract_assert, return_value, done, next}
+use Rattle.cx_core.specs.Tree.{scalar, pointer, Expr, assign, prefix_step, postfix_step, Operand, value, Stmt, Stmts, empty, expression, variable_declaration, reference_declaration, block, if_else, while_loop, for_loop, Condition, always, while, break, continue, contract_assert, return_value, done, next}
 use Rattle.cx_emit.specs.Configuration.{operation_at, Has}
 use Rattle.cx_emit.specs.Operations.{scalar_of, binary_operation}
 use Rattle.cx_emit.specs.Stands.{HasSome, StandsNumberLoad, StandsExpr, StandsOperand}
@@ -28,6 +28,7 @@ abbrev pub goes_on : Stmt → Bool
 goes_on empty = true
 goes_on (expression e) = true
 goes_on (variable_declaration slot type init) = true
+goes_on (reference_declaration slot e) = true
 goes_on other = false
 
 module _ (image : Image) (function : ℕ) where
@@ -56,6 +57,18 @@ module _ (image : Image) (function : ℕ) where
     pub stands : StandsOperand image function a placed valued
     pub stores : Has image function valued does.Store to
 
+  -- a name of a place; it denotes nothing while that is evaluated
+  pub record StandsReference (scopes : List (List ℕ)) (slot : ℕ) (e : Expr) (from to : ℕ) : Type 0 where
+    pub is_unused : IsUnused slot scopes
+    pub is_slot : slot < slot_count image function
+    pub pushed : ℕ
+    pub emptied : ℕ
+    pub placed : ℕ
+    pub pushes : Has image function from does.PushNull pushed
+    pub empties : Has image function pushed (does.Set slot) emptied
+    pub stands : StandsExpr image function e emptied placed
+    pub binds : Has image function placed (does.Set slot) to
+
   -- the code goes on behind it where the condition holds, and else at another place
   abbrev pub StandsCondition : Condition → (from to other : ℕ) → Type 0
   StandsCondition always from to other = to ≡ from
@@ -67,6 +80,8 @@ module _ (image : Image) (function : ℕ) where
     StandsStmt around now empty from to = to ≡ from
     StandsStmt around now (expression e) from to = StandsDiscarded e from to
     StandsStmt around now (variable_declaration slot (scalar type) (value a)) from to = StandsDeclaration (now ∷ around.scopes) slot a from to
+    StandsStmt around now (variable_declaration slot pointer (value a)) from to = StandsDeclaration (now ∷ around.scopes) slot a from to
+    StandsStmt around now (reference_declaration slot e) from to = StandsReference (now ∷ around.scopes) slot e from to
     StandsStmt around now (block b) from to = StandsStmts (inside around now) [] b from to
     StandsStmt around now (if_else c a b) from to =
         (declares a ≡ false) × (declares b ≡ false) × (p q other : ℕ) × StandsCondition (while c) from p other × StandsStmt around now a p q × GoesOn image function q to × StandsStmt around now b other to

@@ -6,7 +6,8 @@ ghost use Rattle.cx_emit.specs.Laws.{ChecksAreFollowed, ExpressionsAreFollowed, 
 /// behaviour. Each unit of the budget has an instruction, and at most 16 instructions fewer than a unit pays for are left
 /// over.
 ///
-/// Source: this project's own, for [expr.mul] to [expr.or] and [expr.unary.op] of the C++ draft.
+/// Source: this project's own, for [expr.mul] to [expr.cond], [expr.unary.op], [expr.cast] and [expr.prim.id] of the C++
+/// draft.
 pub fn expressions_are_followed()
     ensures { ExpressionsAreFollowed }
 {}
@@ -28,10 +29,11 @@ pub fn checks_are_followed()
     ensures { ChecksAreFollowed }
 {}
 
-/// An image that stands for a well made program of `main` alone has only runs that the program permits: blocks, variables of
-/// scalar type, `if`, loops with `break` and `continue`, `return` with a value, assignments and other expressions whose value
-/// is discarded, and contract assertions that are evaluated once or not at all, of the expressions of the other laws. The
-/// image's first function calls another one, which has the code of the body.
+/// An image that stands for a well made program of `main` alone has only runs that the program permits: blocks, variables
+/// of scalar and pointer types, references, `if`, loops with `break` and `continue`, `return` with a value, assignments,
+/// `++`, `--` and other expressions whose value is discarded, and contract assertions that are evaluated once or not at
+/// all, of the expressions of the other laws. The image's first function calls another one, which has the code of the
+/// body.
 ///
 /// Source: this project's own, for [stmt] and [basic.start.main] of the C++ draft and [basic.contract.eval] of P2900R14.
 pub fn images_of_main_are_faithful()
