@@ -1,6 +1,6 @@
 -- What some words ask for, computed.
 use Rattle.std.proofs.Common.{◌≡◌, List, ℕ, [], ◌∷◌, Some, None, codes, refl}
-use Rattle.cx_code.specs.declared.violation.Semantic.TheVariants.{Ignore, Observe, Enforce, QuickEnforce}
+use Rattle.cx_code.specs.declared.violation.Semantic.TheVariants.{Ignore, Enforce, QuickEnforce}
 use Rattle.cx_tool.specs.Words.{request, request_of, steps_in}
 
 abbrev pub call_of : List (List ℕ) → List (List ℕ)

@@ -1,5 +1,5 @@
 -- This defines what a run of a unit's image gives, beside the machine's run, where the outside can fail; it is this project's own.
-use Rattle.std.specs.Prelude.{◌≡◌, ◌≢◌, ℕ, List, [], ⊤}
+use Rattle.std.specs.Prelude.{◌≡◌, ◌≢◌, ℕ, [], ⊤}
 use Rattle.std.specs.Io.KnownBytes.{Appends}
 use Rattle.cx_outside.specs.Stream.{TakesFront}
 use Rattle.cx_code.specs.declared.image.Image.{Image}

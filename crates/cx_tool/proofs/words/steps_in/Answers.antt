@@ -1,4 +1,4 @@
-use Rattle.std.proofs.Common.{◌≡◌, true, rules}
+use Rattle.std.proofs.Common.{◌≡◌, true}
 use Rattle.cx_tool.specs.Words.{is_decimal}
 use Rattle.cx_tool.proofs.Numbers.{not_a_number}
 use Rattle.cx_tool.proofs.words.steps_in.Goals as goal
