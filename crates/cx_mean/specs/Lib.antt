@@ -1,0 +1,4 @@
+pub mod Seen
+pub mod Tasks
+pub mod Frames
+pub mod Steps

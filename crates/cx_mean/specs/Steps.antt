@@ -1,0 +1,15 @@
+-- That a step of this program comes to what the machine's step does; this project's own.
+use Rattle.std.specs.Prelude.{◌≡◌, Result}
+use Rattle.cx_core.specs.Outcome.{Does}
+use Rattle.cx_plain.specs.Task as task
+use Rattle.cx_plain_state.specs.declared.answer.Halt.{Halt}
+use Rattle.cx_plain_state.specs.declared.state.State.{State}
+use Rattle.cx_plain_state.specs.Seen.{state_of}
+use Rattle.cx_plain_state.specs.Ran.{Ran}
+use Rattle.cx_mean.specs.declared.program.Program.{Program}
+use Rattle.cx_mean.specs.declared.waiting.Next.{Next}
+use Rattle.cx_mean.specs.Seen.{numbers_of}
+use Rattle.cx_mean.specs.Frames.{next_of}
+
+abbrev pub Steps : Program → Does task.Next → Result Next Halt → (old new : State) → Type 0
+Steps p m result old new = Ran (next_of (numbers_of p)) (m (state_of old)) result (state_of new)

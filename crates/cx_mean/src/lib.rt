@@ -1,0 +1,22 @@
+//! What a program means, computed: the steps of the machine of cx_plain over a stack of its own. It is slow and simple,
+//! for tests alone.
+#![tactic(auto)]
+
+mod call_frame;
+mod calls;
+mod checks;
+mod expression;
+mod field;
+mod handling;
+mod leaving;
+mod machine;
+mod object;
+mod operand;
+mod operand_frame;
+mod program;
+mod statement;
+mod step;
+mod task;
+mod waiting;
+
+pub use program::{CallerChecks, Class, Function, PlannedAssertion, Program};
