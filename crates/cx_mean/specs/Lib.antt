@@ -2,3 +2,4 @@ pub mod Seen
 pub mod Tasks
 pub mod Frames
 pub mod Steps
+pub mod Parts

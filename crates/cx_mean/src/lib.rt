@@ -8,6 +8,7 @@ mod checks;
 mod expression;
 mod field;
 mod handling;
+mod leaf;
 mod leaving;
 mod machine;
 mod object;

@@ -4,4 +4,4 @@ use Rattle.cx_mean.proofs.machine.Machine.doing.Goals as goal
 
 pub returns : goal.returns
 unfolding gives
-returns c = let h = c.new.ensures in record { comes = rw h refl }
+returns c = record { comes = rw c.new.ensures.items refl }
