@@ -10,14 +10,17 @@ mod field;
 mod handling;
 mod leaf;
 mod leaving;
+mod lookup;
 mod machine;
 mod object;
 mod operand;
 mod operand_frame;
+mod operation;
 mod program;
 mod statement;
 mod step;
 mod task;
 mod waiting;
+mod zero;
 
 pub use program::{CallerChecks, Class, Function, PlannedAssertion, Program};
