@@ -2,11 +2,13 @@
 //! for tests alone.
 #![tactic(auto)]
 
+mod argument_frame;
 mod call_frame;
 mod calls;
 mod checks;
 mod expression;
 mod field;
+mod following_frame;
 mod handling;
 mod leaf;
 mod leaving;
@@ -17,6 +19,7 @@ mod operand;
 mod operand_frame;
 mod operation;
 mod program;
+mod run;
 mod statement;
 mod step;
 mod task;
@@ -24,3 +27,4 @@ mod waiting;
 mod zero;
 
 pub use program::{CallerChecks, Class, Function, PlannedAssertion, Program};
+pub use run::{Meaning, Want};
