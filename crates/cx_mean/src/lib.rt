@@ -7,6 +7,7 @@ mod begin;
 mod call_frame;
 mod calls;
 mod checks;
+mod ending;
 mod expression;
 mod field;
 mod following_frame;
