@@ -41,7 +41,15 @@ fn copy_leaf(state: &mut State<'_>, source: Address, to: Address) -> Result<(), 
 impl<'p> Machine<'p> {
     /// A field is initialised at its place, then others.
     #[tactic(auto, unfolding(cx_core::specs::Outcome::either, cx_core::specs::Outcome::current_temporaries, cx_core::specs::Outcome::set_temporaries))]
-    fn field_entered(&self, state: &mut State<'p>, level: Level, place: Address, of: ObjectType, task: Task<'p>, rest: Task<'p>) -> Result<Next<'p>, Halt>
+    fn field_entered(
+        &self,
+        state: &mut State<'p>,
+        level: Level,
+        place: Address,
+        of: ObjectType,
+        task: Task<'p>,
+        rest: Task<'p>,
+    ) -> Result<Next<'p>, Halt>
         ensures { let p = self.now.program.now in let n = numbers_of p in Steps p (field_started (level_of level) (address_of place) (type_of of) (task_of n task.entry) (task_of n rest.entry)) result state.old state.new }
     {
         let rest = self.then_next(rest)?;
@@ -51,7 +59,13 @@ impl<'p> Machine<'p> {
     }
 
     /// A field is initialised, then others.
-    fn field_init(&self, state: &mut State<'p>, level: Level, f: &'p FieldInitializer, rest: &'p [FieldInitializer]) -> Result<Next<'p>, Halt>
+    fn field_init(
+        &self,
+        state: &mut State<'p>,
+        level: Level,
+        f: &'p FieldInitializer,
+        rest: &'p [FieldInitializer],
+    ) -> Result<Next<'p>, Halt>
         ensures { let p = self.now.program.now in let n = numbers_of p in Steps p (step_field_inits (program_of p) (level_of level) (field_init_of n f.now ∷ field_inits_of n rest.now)) result state.old state.new }
     {
         let this = this_place(state)?;
@@ -62,7 +76,12 @@ impl<'p> Machine<'p> {
     }
 
     /// Fields are initialised in order.
-    pub(crate) fn field_inits(&self, state: &mut State<'p>, level: Level, fields: &'p [FieldInitializer]) -> Result<Next<'p>, Halt>
+    pub(crate) fn field_inits(
+        &self,
+        state: &mut State<'p>,
+        level: Level,
+        fields: &'p [FieldInitializer],
+    ) -> Result<Next<'p>, Halt>
         ensures { let p = self.now.program.now in let n = numbers_of p in Steps p (step_field_inits (program_of p) (level_of level) (field_inits_of n fields.now)) result state.old state.new }
     {
         match fields.split_first() {
@@ -72,7 +91,15 @@ impl<'p> Machine<'p> {
     }
 
     /// A field of class type is constructed without arguments, then the other fields are.
-    fn default_by(&self, state: &mut State<'p>, level: Level, leaf: u32, class: u32, constructor: u32, fields: &'p [Field]) -> Result<Next<'p>, Halt>
+    fn default_by(
+        &self,
+        state: &mut State<'p>,
+        level: Level,
+        leaf: u32,
+        class: u32,
+        constructor: u32,
+        fields: &'p [Field],
+    ) -> Result<Next<'p>, Halt>
         ensures { let p = self.now.program.now in let n = numbers_of p in Steps p (default_started (program_of p) (level_of level) leaf class constructor (fields_of n fields.now)) result state.old state.new }
     {
         let this = this_place(state)?;
@@ -84,12 +111,26 @@ impl<'p> Machine<'p> {
     }
 
     /// A field of a class is constructed without arguments, then the other fields are.
-    fn default_class(&self, state: &mut State<'p>, level: Level, leaf: u32, class: u32, fields: &'p [Field]) -> Result<Next<'p>, Halt>
+    fn default_class(
+        &self,
+        state: &mut State<'p>,
+        level: Level,
+        leaf: u32,
+        class: u32,
+        fields: &'p [Field],
+    ) -> Result<Next<'p>, Halt>
         ensures { let p = self.now.program.now in let n = numbers_of p in Steps p (step_default_field (program_of p) (level_of level) leaf (trees.class class) (fields_of n fields.now)) result state.old state.new }
     {
         match self.class_at(class) {
             Some(definition) => match definition.definition.default_constructor {
-                Some(constructor) => self.default_by(state, level, leaf, class, constructor, fields),
+                Some(constructor) => self.default_by(
+                    state,
+                    level,
+                    leaf,
+                    class,
+                    constructor,
+                    fields,
+                ),
                 None => Err(undefined(Kind::Mixed)),
             },
             None => Err(undefined(Kind::Mixed)),
@@ -97,29 +138,57 @@ impl<'p> Machine<'p> {
     }
 
     /// A field is constructed without arguments, where it is a class object; then the other fields are.
-    fn default_field(&self, state: &mut State<'p>, level: Level, leaf: u32, of: ObjectType, fields: &'p [Field]) -> Result<Next<'p>, Halt>
+    fn default_field(
+        &self,
+        state: &mut State<'p>,
+        level: Level,
+        leaf: u32,
+        of: ObjectType,
+        fields: &'p [Field],
+    ) -> Result<Next<'p>, Halt>
         ensures { let p = self.now.program.now in let n = numbers_of p in Steps p (step_default_field (program_of p) (level_of level) leaf (type_of of) (fields_of n fields.now)) result state.old state.new }
     {
         match of {
             ObjectType::Class(class) => self.default_class(state, level, leaf, class, fields),
             ObjectType::Scalar(_) | ObjectType::Pointer => {
-                self.doing(state, Task::Object(ObjectTask::DefaultFields(level, fields)))
+                self.doing(
+                    state,
+                    Task::Object(ObjectTask::DefaultFields(level, fields)),
+                )
             }
         }
     }
 
     /// Fields are constructed without arguments, in order.
-    pub(crate) fn default_fields(&self, state: &mut State<'p>, level: Level, fields: &'p [Field]) -> Result<Next<'p>, Halt>
+    pub(crate) fn default_fields(
+        &self,
+        state: &mut State<'p>,
+        level: Level,
+        fields: &'p [Field],
+    ) -> Result<Next<'p>, Halt>
         ensures { let p = self.now.program.now in let n = numbers_of p in Steps p (step_default_fields (program_of p) (level_of level) (fields_of n fields.now)) result state.old state.new }
     {
         match fields.split_first() {
             None => Ok(Next::Give(Given::Nothing)),
-            Some((f, rest)) => self.default_field(state, level, f.leaf, self.object_type(f.of), rest),
+            Some((f, rest)) => self.default_field(
+                state,
+                level,
+                f.leaf,
+                self.object_type(f.of),
+                rest,
+            ),
         }
     }
 
     /// A field is copied, then others.
-    fn copying_first(&self, state: &mut State<'p>, level: Level, source: Address, f: &'p Field, rest: &'p [Field]) -> Result<Next<'p>, Halt>
+    fn copying_first(
+        &self,
+        state: &mut State<'p>,
+        level: Level,
+        source: Address,
+        f: &'p Field,
+        rest: &'p [Field],
+    ) -> Result<Next<'p>, Halt>
         ensures { let p = self.now.program.now in let n = numbers_of p in Steps p (step_copying_fields (program_of p) (level_of level) (address_of source) (field_of n f.now ∷ fields_of n rest.now)) result state.old state.new }
     {
         let this = this_place(state)?;
@@ -132,7 +201,13 @@ impl<'p> Machine<'p> {
     }
 
     /// Fields are copied in order.
-    pub(crate) fn copying_fields(&self, state: &mut State<'p>, level: Level, source: Address, fields: &'p [Field]) -> Result<Next<'p>, Halt>
+    pub(crate) fn copying_fields(
+        &self,
+        state: &mut State<'p>,
+        level: Level,
+        source: Address,
+        fields: &'p [Field],
+    ) -> Result<Next<'p>, Halt>
         ensures { let p = self.now.program.now in let n = numbers_of p in Steps p (step_copying_fields (program_of p) (level_of level) (address_of source) (fields_of n fields.now)) result state.old state.new }
     {
         match fields.split_first() {
@@ -142,7 +217,12 @@ impl<'p> Machine<'p> {
     }
 
     /// A leaf is copied as it is.
-    fn leaf_copied(&self, state: &mut State<'p>, source: Address, to: Address) -> Result<Next<'p>, Halt>
+    fn leaf_copied(
+        &self,
+        state: &mut State<'p>,
+        source: Address,
+        to: Address,
+    ) -> Result<Next<'p>, Halt>
         ensures { let p = self.now.program.now in let n = numbers_of p in Steps p (copied_leaf (program_of p) (address_of source) (address_of to)) result state.old state.new }
     {
         copy_leaf(state, source, to)?;
@@ -150,17 +230,34 @@ impl<'p> Machine<'p> {
     }
 
     /// The fields of a class are copied, or the leaf of one without fields.
-    pub(crate) fn copying_members(&self, state: &mut State<'p>, level: Level, fields: &'p [Field], source: Address, to: Address) -> Result<Next<'p>, Halt>
+    pub(crate) fn copying_members(
+        &self,
+        state: &mut State<'p>,
+        level: Level,
+        fields: &'p [Field],
+        source: Address,
+        to: Address,
+    ) -> Result<Next<'p>, Halt>
         ensures { let p = self.now.program.now in let n = numbers_of p in Steps p (step_copying_members (program_of p) (level_of level) (fields_of n fields.now) (address_of source) (address_of to)) result state.old state.new }
     {
         if fields.is_empty() {
             return self.leaf_copied(state, source, to);
         }
-        self.doing(state, Task::Object(ObjectTask::CopyingFields(level, source, fields)))
+        self.doing(
+            state,
+            Task::Object(ObjectTask::CopyingFields(level, source, fields)),
+        )
     }
 
     /// An object of a class is copied by its copy constructor.
-    fn copy_by(&self, state: &State<'p>, level: Level, class: &Class, source: Address, to: Address) -> Result<Next<'p>, Halt>
+    fn copy_by(
+        &self,
+        state: &State<'p>,
+        level: Level,
+        class: &Class,
+        source: Address,
+        to: Address,
+    ) -> Result<Next<'p>, Halt>
         ensures { let p = self.now.program.now in let n = numbers_of p in Steps p (copied_by (level_of level) (class_of n class.now) (address_of source) (address_of to)) result state.now state.now }
     {
         let arguments = vec![in self.alloc; Value::Address(source)]?;
@@ -169,7 +266,14 @@ impl<'p> Machine<'p> {
     }
 
     /// An object of a class is copied.
-    fn copying_class(&self, state: &State<'p>, level: Level, class: u32, source: Address, to: Address) -> Result<Next<'p>, Halt>
+    fn copying_class(
+        &self,
+        state: &State<'p>,
+        level: Level,
+        class: u32,
+        source: Address,
+        to: Address,
+    ) -> Result<Next<'p>, Halt>
         ensures { let p = self.now.program.now in let n = numbers_of p in Steps p (step_copying_object (program_of p) (level_of level) (trees.class class) (address_of source) (address_of to)) result state.now state.now }
     {
         match self.class_at(class) {
@@ -179,7 +283,14 @@ impl<'p> Machine<'p> {
     }
 
     /// An object is copied.
-    pub(crate) fn copying_object(&self, state: &mut State<'p>, level: Level, of: ObjectType, source: Address, to: Address) -> Result<Next<'p>, Halt>
+    pub(crate) fn copying_object(
+        &self,
+        state: &mut State<'p>,
+        level: Level,
+        of: ObjectType,
+        source: Address,
+        to: Address,
+    ) -> Result<Next<'p>, Halt>
         ensures { let p = self.now.program.now in let n = numbers_of p in Steps p (step_copying_object (program_of p) (level_of level) (type_of of) (address_of source) (address_of to)) result state.old state.new }
     {
         match of {

@@ -20,7 +20,9 @@ use crate::task::{ExpressionTask, Keeper, Level, ObjectTask, Task};
 use crate::waiting::{FollowingFrame, Given, Next, ObjectFrame, Waiting};
 use cx_code::Kind;
 use cx_core::Initializer;
-use cx_plain_state::{Address, Event, Exception, Halt, Living, ObjectType, State, Value, undefined};
+use cx_plain_state::{
+    Address, Event, Exception, Halt, Living, ObjectType, State, Value, undefined,
+};
 use cx_types::Scalar;
 
 #[tactic(auto, unfolding(cx_core::specs::Outcome::gives))]
@@ -120,18 +122,39 @@ impl<'p> Machine<'p> {
     }
 
     /// A variable denotes an object, where it has a slot.
-    fn make_at(&self, state: &mut State<'p>, level: Level, keeper: Keeper, of: ObjectType, slot: Option<u32>, i: &'p Initializer, leaves: usize) -> Result<Next<'p>, Halt>
+    fn make_at(
+        &self,
+        state: &mut State<'p>,
+        level: Level,
+        keeper: Keeper,
+        of: ObjectType,
+        slot: Option<u32>,
+        i: &'p Initializer,
+        leaves: usize,
+    ) -> Result<Next<'p>, Halt>
         ensures { let p = self.now.program.now in let n = numbers_of p in Steps p (made_at (level_of level) (keeper_of keeper) (type_of of) slot (init_of n i.now) leaves) result state.old state.new }
     {
         let object = state.make(self.alloc, leaves)?;
         bind_object(state, slot, object)?;
         let place = Address { object, leaf: 0 };
         let task = Task::Expression(ExpressionTask::Initialise(level, i, place));
-        self.under(state, task, Waiting::Object(ObjectFrame::Made(keeper, object, of)))
+        self.under(
+            state,
+            task,
+            Waiting::Object(ObjectFrame::Made(keeper, object, of)),
+        )
     }
 
     /// An object is made.
-    fn making(&self, state: &mut State<'p>, level: Level, keeper: Keeper, of: ObjectType, slot: Option<u32>, i: &'p Initializer) -> Result<Next<'p>, Halt>
+    fn making(
+        &self,
+        state: &mut State<'p>,
+        level: Level,
+        keeper: Keeper,
+        of: ObjectType,
+        slot: Option<u32>,
+        i: &'p Initializer,
+    ) -> Result<Next<'p>, Halt>
         ensures { let p = self.now.program.now in let n = numbers_of p in Steps p (step_task (program_of p) (tasks.making (level_of level) (keeper_of keeper) (type_of of) slot (init_of n i.now))) result state.old state.new }
     {
         let leaves = self.leaves_of(state, of)?;
@@ -140,17 +163,35 @@ impl<'p> Machine<'p> {
 
     /// A variable is declared.
     #[tactic(auto, unfolding(cx_core::specs::Outcome::either, cx_core::specs::Outcome::current_temporaries, cx_core::specs::Outcome::set_temporaries))]
-    fn declaring(&self, state: &mut State<'p>, level: Level, slot: u32, of: ObjectType, i: &'p Initializer) -> Result<Next<'p>, Halt>
+    fn declaring(
+        &self,
+        state: &mut State<'p>,
+        level: Level,
+        slot: u32,
+        of: ObjectType,
+        i: &'p Initializer,
+    ) -> Result<Next<'p>, Halt>
         ensures { let p = self.now.program.now in let n = numbers_of p in Steps p (step_task (program_of p) (tasks.declaring (level_of level) slot (type_of of) (init_of n i.now))) result state.old state.new }
     {
         let full = self.enter_full_expression(state, level);
         let keeper = Keeper::InnermostScope;
         let task = Task::Object(ObjectTask::Making(level, keeper, of, Some(slot), i));
-        self.under_two(state, task, Waiting::Following(FollowingFrame::Discard), full)
+        self.under_two(
+            state,
+            task,
+            Waiting::Following(FollowingFrame::Discard),
+            full,
+        )
     }
 
     /// An object is kept once it is made.
-    fn keep(&self, state: &mut State<'p>, keeper: Keeper, object: u64, of: ObjectType) -> Result<Next<'p>, Halt>
+    fn keep(
+        &self,
+        state: &mut State<'p>,
+        keeper: Keeper,
+        object: u64,
+        of: ObjectType,
+    ) -> Result<Next<'p>, Halt>
         ensures { let p = self.now.program.now in let n = numbers_of p in Steps p (object_kept (keeper_of keeper) object (type_of of)) result state.old state.new }
     {
         keep(state, keeper, Living::Whole(object, of))?;
@@ -158,7 +199,12 @@ impl<'p> Machine<'p> {
     }
 
     /// A field of class type is kept once it is constructed.
-    fn keep_class_field(&self, state: &mut State<'p>, a: Address, class: u32) -> Result<Next<'p>, Halt>
+    fn keep_class_field(
+        &self,
+        state: &mut State<'p>,
+        a: Address,
+        class: u32,
+    ) -> Result<Next<'p>, Halt>
         ensures { let p = self.now.program.now in Steps p (field_kept (program_of p) (address_of a) (trees.class class)) result state.old state.new }
     {
         state.keep(Living::Field(a, class))?;
@@ -166,7 +212,12 @@ impl<'p> Machine<'p> {
     }
 
     /// A field is kept once it is constructed.
-    fn keep_field(&self, state: &mut State<'p>, a: Address, of: ObjectType) -> Result<Next<'p>, Halt>
+    fn keep_field(
+        &self,
+        state: &mut State<'p>,
+        a: Address,
+        of: ObjectType,
+    ) -> Result<Next<'p>, Halt>
         ensures { let p = self.now.program.now in let n = numbers_of p in Steps p (field_kept (program_of p) (address_of a) (type_of of)) result state.old state.new }
     {
         match of {
@@ -176,7 +227,12 @@ impl<'p> Machine<'p> {
     }
 
     /// A value is written at a place.
-    fn write_value(&self, state: &mut State<'p>, a: Address, given: Given<'p>) -> Result<Next<'p>, Halt>
+    fn write_value(
+        &self,
+        state: &mut State<'p>,
+        a: Address,
+        given: Given<'p>,
+    ) -> Result<Next<'p>, Halt>
         ensures { let p = self.now.program.now in let n = numbers_of p in Steps p (step_given (program_of p) (tasks.write_value (address_of a)) (given_of given.entry)) result state.old state.new }
     {
         match given {
@@ -196,7 +252,12 @@ impl<'p> Machine<'p> {
     }
 
     /// An exception object is made, and flies.
-    fn throwing(&self, state: &mut State<'p>, of: ObjectType, given: Given<'p>) -> Result<Next<'p>, Halt>
+    fn throwing(
+        &self,
+        state: &mut State<'p>,
+        of: ObjectType,
+        given: Given<'p>,
+    ) -> Result<Next<'p>, Halt>
         ensures { let p = self.now.program.now in let n = numbers_of p in Steps p (step_given (program_of p) (tasks.throwing (type_of of)) (given_of given.entry)) result state.old state.new }
     {
         match given {
@@ -206,7 +267,12 @@ impl<'p> Machine<'p> {
     }
 
     /// What waits for the initialisation of an object is given something.
-    pub(crate) fn object_given(&self, state: &mut State<'p>, frame: ObjectFrame, given: Given<'p>) -> Result<Next<'p>, Halt>
+    pub(crate) fn object_given(
+        &self,
+        state: &mut State<'p>,
+        frame: ObjectFrame,
+        given: Given<'p>,
+    ) -> Result<Next<'p>, Halt>
         ensures { let p = self.now.program.now in let n = numbers_of p in Steps p (step_given (program_of p) (object_frame_of frame) (given_of given.entry)) result state.old state.new }
     {
         match frame {
@@ -219,7 +285,12 @@ impl<'p> Machine<'p> {
     }
 
     /// An exception passes what waits for the initialisation of an object.
-    pub(crate) fn object_thrown(&self, state: &mut State<'p>, frame: ObjectFrame, e: Exception) -> Result<Next<'p>, Halt>
+    pub(crate) fn object_thrown(
+        &self,
+        state: &mut State<'p>,
+        frame: ObjectFrame,
+        e: Exception,
+    ) -> Result<Next<'p>, Halt>
         ensures { let p = self.now.program.now in let n = numbers_of p in Steps p (step_thrown (program_of p) (object_frame_of frame) (exception_of e)) result state.old state.new }
     {
         match frame {
@@ -232,22 +303,38 @@ impl<'p> Machine<'p> {
     }
 
     /// An object is made, initialised, copied or ended.
-    pub(crate) fn object_task(&self, state: &mut State<'p>, task: ObjectTask<'p>) -> Result<Next<'p>, Halt>
+    pub(crate) fn object_task(
+        &self,
+        state: &mut State<'p>,
+        task: ObjectTask<'p>,
+    ) -> Result<Next<'p>, Halt>
         ensures { let p = self.now.program.now in let n = numbers_of p in Steps p (step_task (program_of p) (object_task_of n task.entry)) result state.old state.new }
     {
         match task {
             ObjectTask::Destroying(level, class, a) => self.destroying(state, level, class, a),
-            ObjectTask::DestroyingEach(level, a, fields) => self.destroying_each(state, level, a, fields),
-            ObjectTask::DestroyingFields(level, class, a) => self.destroying_fields(state, level, class, a),
+            ObjectTask::DestroyingEach(level, a, fields) => self.destroying_each(
+                state, level, a, fields,
+            ),
+            ObjectTask::DestroyingFields(level, class, a) => self.destroying_fields(
+                state, level, class, a,
+            ),
             ObjectTask::Ending(level, living) => self.ending(state, level, living),
             ObjectTask::EndingEach(level, living) => self.ending_each(state, level, living),
-            ObjectTask::Making(level, keeper, of, slot, i) => self.making(state, level, keeper, of, slot, i),
+            ObjectTask::Making(level, keeper, of, slot, i) => self.making(
+                state, level, keeper, of, slot, i,
+            ),
             ObjectTask::Declaring(level, slot, of, i) => self.declaring(state, level, slot, of, i),
             ObjectTask::FieldInits(level, fields) => self.field_inits(state, level, fields),
             ObjectTask::DefaultFields(level, fields) => self.default_fields(state, level, fields),
-            ObjectTask::CopyingFields(level, source, fields) => self.copying_fields(state, level, source, fields),
-            ObjectTask::CopyingMembers(level, fields, source, to) => self.copying_members(state, level, fields, source, to),
-            ObjectTask::CopyingObject(level, of, source, to) => self.copying_object(state, level, of, source, to),
+            ObjectTask::CopyingFields(level, source, fields) => self.copying_fields(
+                state, level, source, fields,
+            ),
+            ObjectTask::CopyingMembers(level, fields, source, to) => self.copying_members(
+                state, level, fields, source, to,
+            ),
+            ObjectTask::CopyingObject(level, of, source, to) => self.copying_object(
+                state, level, of, source, to,
+            ),
         }
     }
 }
