@@ -7,6 +7,7 @@ mod calls;
 mod checks;
 mod expression;
 mod field;
+mod frames;
 mod handling;
 mod leaf;
 mod leaving;
