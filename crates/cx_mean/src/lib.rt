@@ -8,6 +8,7 @@ mod checks;
 mod expression;
 mod field;
 mod frames;
+mod full;
 mod handling;
 mod leaf;
 mod leaving;
@@ -19,6 +20,8 @@ mod program;
 mod statement;
 mod step;
 mod task;
+mod turns;
+mod types;
 mod waiting;
 
 pub use program::{CallerChecks, Class, Function, PlannedAssertion, Program};
