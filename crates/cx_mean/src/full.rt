@@ -27,7 +27,7 @@ impl<'p> Machine<'p> {
         let full = self.enter_full_expression(state, level);
         let task = Task::Expression(ExpressionTask::Expression(level, e));
         let completed = Waiting::Following(FollowingFrame::Completed);
-        self.under_both(state, task, completed, full)
+        self.under_two(state, task, full, completed)
     }
 
     /// A variable that isn't a reference is declared.
@@ -46,8 +46,8 @@ impl<'p> Machine<'p> {
         let full = self.enter_full_expression(state, level);
         let completed = Waiting::Following(FollowingFrame::Completed);
         let bound = Waiting::Object(ObjectFrame::Bound(slot));
-        let frames = vec![in self.alloc; completed, bound, full]?;
-        self.under_all(state, Task::Expression(ExpressionTask::Expression(level, e)), frames)
+        let task = Task::Expression(ExpressionTask::Expression(level, e));
+        self.under_three(state, task, full, bound, completed)
     }
 
     /// One of two statements is run, as a condition decides.
@@ -65,8 +65,8 @@ impl<'p> Machine<'p> {
         let full = self.enter_full_expression(state, level);
         let returning = Waiting::Following(FollowingFrame::Returning);
         let stored = Waiting::Operand(OperandFrame::Operate(Operation::StoreResult));
-        let frames = vec![in self.alloc; returning, full, stored]?;
-        self.under_all(state, Task::Expression(ExpressionTask::Used(level, a)), frames)
+        let task = Task::Expression(ExpressionTask::Used(level, a));
+        self.under_three(state, task, stored, full, returning)
     }
 
     /// A function is left with what a reference denotes.
@@ -76,7 +76,7 @@ impl<'p> Machine<'p> {
         let full = self.enter_full_expression(state, level);
         let task = Task::Expression(ExpressionTask::Expression(level, e));
         let returning = Waiting::Following(FollowingFrame::Returning);
-        self.under_both(state, task, returning, full)
+        self.under_two(state, task, full, returning)
     }
 
     /// A function is left once its result object is initialised.
@@ -89,7 +89,7 @@ impl<'p> Machine<'p> {
         let nothing = Given::Completion(Completion::Return(Value::Null));
         let left = Waiting::Following(FollowingFrame::Replace(nothing));
         let task = Task::Expression(ExpressionTask::Initialise(level, i, a));
-        self.under_both(state, task, left, full)
+        self.under_two(state, task, full, left)
     }
 
     /// A contract assertion is checked.
@@ -108,7 +108,7 @@ impl<'p> Machine<'p> {
         let full = self.enter_full_expression(state, level);
         let task = Task::Object(ObjectTask::Making(level, Keeper::Nobody, of, None, i));
         let throwing = Waiting::Object(ObjectFrame::Throwing(of));
-        self.under_both(state, task, full, throwing)
+        self.under_two(state, task, throwing, full)
     }
 
     /// A block is run, whose exceptions handlers may take.

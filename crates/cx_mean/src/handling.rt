@@ -49,7 +49,7 @@ impl<'p> Machine<'p> {
             leaf: 0,
         };
         state.bind(slot, Value::Address(place))?;
-        let block = self.boxed(StatementTask::Statements(level, b))?;
+        let block = self.statement_of(StatementTask::Statements(level, b))?;
         self.under_all(state, block, frames)
     }
 
@@ -57,7 +57,7 @@ impl<'p> Machine<'p> {
     fn object_parameter(&self, state: &State<'p>, level: Level, slot: u32, i: &'p Initializer, e: Exception, b: &'p [Statement], frames: Vec<Waiting<'p>>) -> Result<Next<'p>, Halt>
         ensures { let p = self.now.program.now in let n = numbers_of p in Steps p (step_parameter (program_of p) (level_of level) (tree.object slot (init_of n i.now)) (exception_of e) (stmts_of n b.now) (frames_of n frames.entry.items)) result state.now state.now }
     {
-        let block = self.boxed(StatementTask::Statements(level, b))?;
+        let block = self.statement_of(StatementTask::Statements(level, b))?;
         let frames = self.followed(frames, block)?;
         let frames = self.framed(frames, Waiting::Leaving(LeavingFrame::EdgeIf(true)))?;
         let task = Task::Object(ObjectTask::Declaring(level, slot, e.of, i));
@@ -68,7 +68,7 @@ impl<'p> Machine<'p> {
     fn no_parameter(&self, state: &State<'p>, level: Level, e: Exception, b: &'p [Statement], frames: Vec<Waiting<'p>>) -> Result<Next<'p>, Halt>
         ensures { let p = self.now.program.now in let n = numbers_of p in Steps p (step_parameter (program_of p) (level_of level) tree.unnamed (exception_of e) (stmts_of n b.now) (frames_of n frames.entry.items)) result state.now state.now }
     {
-        let block = self.boxed(StatementTask::Statements(level, b))?;
+        let block = self.statement_of(StatementTask::Statements(level, b))?;
         self.under_all(state, block, frames)
     }
 
@@ -133,7 +133,7 @@ impl<'p> Machine<'p> {
         match &handler.catches {
             None => self.handled_by_all(state, level, e, &handler.body),
             Some(of) => {
-                let of = self.object_type(of);
+                let of = self.object_type(*of);
                 self.handled_by_type(state, level, of, handler, rest, e)
             }
         }

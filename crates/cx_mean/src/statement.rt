@@ -1,36 +1,28 @@
 //! Statements.
-ghost use Rattle.std.specs.Prelude.{◌≡◌, [], ◌∷◌, IfOk};
+ghost use Rattle.std.specs.Prelude.{[], ◌∷◌};
 ghost use Rattle.cx_core.specs.Numbered.{stmt_of, stmts_of};
 ghost use Rattle.cx_plain.specs.Task as tasks;
 ghost use Rattle.cx_plain.specs.Step.{doing, step_statement, step_statements, step_sequence, step_task, step_given, step_thrown};
 ghost use Rattle.cx_plain_state.specs.Ran.{Ran};
 ghost use Rattle.cx_plain_state.specs.Seen.{state_of, exception_of};
 ghost use Rattle.cx_mean.specs.Seen.{numbers_of, program_of};
-ghost use Rattle.cx_mean.specs.Tasks.{level_of, task_of, statement_task_of};
+ghost use Rattle.cx_mean.specs.Tasks.{level_of, statement_task_of};
 ghost use Rattle.cx_mean.specs.Frames.{completion_of, given_of, next_of, statement_frame_of, waiting_of};
 ghost use Rattle.cx_mean.specs.Steps.{Steps};
 
 use crate::machine::Machine;
-use crate::task::{Level, StatementTask, Task};
+use crate::task::{Level, StatementTask};
 use crate::waiting::{Completion, Given, Next, StatementFrame, Waiting};
 use cx_core::Statement;
 use cx_plain_state::{Exception, Halt, State, Value};
-use std::alloc::AllocError;
 
 #[tactic(auto, unfolding(cx_core::specs::Outcome::either, cx_core::specs::Outcome::gives, cx_core::specs::Outcome::ends, cx_core::specs::Outcome::throws))]
 impl<'p> Machine<'p> {
-    /// The task of a statement, of several, of handlers or of a loop.
-    pub(crate) fn boxed(&self, task: StatementTask<'p>) -> Result<Task<'p>, AllocError>
-        ensures { let n = numbers_of self.now.program.now in IfOk result (λ boxed. task_of n boxed ≡ statement_task_of n task.entry) }
-    {
-        Ok(Task::Statement(Box::new(self.alloc, task)?))
-    }
-
     /// A statement, several of them, handlers or a loop are next.
     pub(crate) fn next_statement(&self, state: &State<'p>, task: StatementTask<'p>) -> Result<Next<'p>, Halt>
         ensures { let n = numbers_of self.now.program.now in Ran (next_of n) (doing (statement_task_of n task.entry) [] (state_of state.now)) result (state_of state.now) }
     {
-        let task = self.boxed(task)?;
+        let task = self.statement_of(task)?;
         self.doing(state, task)
     }
 
@@ -38,7 +30,7 @@ impl<'p> Machine<'p> {
     pub(crate) fn statement_under(&self, state: &State<'p>, task: StatementTask<'p>, frame: Waiting<'p>) -> Result<Next<'p>, Halt>
         ensures { let n = numbers_of self.now.program.now in Ran (next_of n) (doing (statement_task_of n task.entry) (waiting_of n frame.entry ∷ []) (state_of state.now)) result (state_of state.now) }
     {
-        let task = self.boxed(task)?;
+        let task = self.statement_of(task)?;
         self.under(state, task, frame)
     }
 
@@ -50,7 +42,7 @@ impl<'p> Machine<'p> {
             Statement::Empty => Ok(Next::Give(Given::Completion(Completion::OnToNext))),
             Statement::Expression(e) => self.discarded(state, level, e),
             Statement::Variable(slot, of, i) => {
-                let of = self.object_type(of);
+                let of = self.object_type(*of);
                 self.variable_declared(state, level, *slot, of, i)
             }
             Statement::Reference(slot, e) => self.reference_declared(state, level, *slot, e),
@@ -71,7 +63,7 @@ impl<'p> Machine<'p> {
             Statement::ReturnObject(i) => self.object_returned(state, level, i),
             Statement::ContractAssert(a, predicate) => self.asserted(state, level, *a, predicate),
             Statement::Throw(of, i) => {
-                let of = self.object_type(of);
+                let of = self.object_type(*of);
                 self.exception_made(state, level, of, i)
             }
             Statement::Rethrow => self.rethrown(state),

@@ -44,10 +44,10 @@ impl<'p> Machine<'p> {
             step: Some(step),
             body,
         };
-        let turned = self.boxed(StatementTask::Looping(level, turned))?;
-        let turned = self.then(turned)?;
-        let first = self.boxed(StatementTask::Statement(level, first))?;
-        self.under_both(state, first, scope, turned)
+        let turned = self.statement_of(StatementTask::Looping(level, turned))?;
+        let turned = self.then_next(turned)?;
+        let first = self.statement_of(StatementTask::Statement(level, first))?;
+        self.under_two(state, first, turned, scope)
     }
 
     /// The condition of a loop is evaluated.
@@ -98,8 +98,8 @@ impl<'p> Machine<'p> {
         match turned.step {
             None => self.next_statement(state, StatementTask::Turns(level, turned, turns)),
             Some(step) => {
-                let next = self.boxed(StatementTask::Turns(level, turned, turns))?;
-                let next = self.then(next)?;
+                let next = self.statement_of(StatementTask::Turns(level, turned, turns))?;
+                let next = self.then_next(next)?;
                 self.statement_under(state, StatementTask::Statement(level, step), next)
             }
         }

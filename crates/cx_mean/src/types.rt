@@ -1,14 +1,14 @@
 //! Types of objects and of exceptions.
 ghost use Rattle.std.specs.Prelude.{◌≡◌};
 ghost use Rattle.cx_types.specs.Scalar.{scalar_name, same_scalar};
-ghost use Rattle.cx_core.specs.Numbered.{object_type};
+ghost use Rattle.cx_core.specs.Tree as tree;
 ghost use Rattle.cx_core.specs.Statements.{same_type, type_name};
 ghost use Rattle.cx_plain_state.specs.Seen.{type_of};
-ghost use Rattle.cx_mean.specs.Seen.{numbers_of, program_of};
+ghost use Rattle.cx_mean.specs.Seen.{program_of};
 
 use crate::machine::Machine;
 use cx_plain_state::ObjectType;
-use cx_types::{Base, Scalar, ValueType};
+use cx_types::Scalar;
 
 /// How a scalar type is written in an event.
 fn scalar_name(scalar: Scalar) -> &'static [u8]
@@ -49,18 +49,13 @@ pub(crate) fn same_type(a: ObjectType, b: ObjectType) -> bool
 }
 
 impl<'p> Machine<'p> {
-    /// The type of an object of a type that isn't a reference.
-    pub(crate) fn object_type(&self, of: &ValueType) -> ObjectType
-        ensures { type_of result ≡ object_type (numbers_of self.now.program.now) of.now }
+    /// The name of a class in an event.
+    fn class_name(&self, class: u32) -> &'p [u8]
+        ensures { result.now ≡ type_name (program_of self.now.program.now) (tree.class class) }
     {
-        if of.pointers != 0 {
-            return ObjectType::Pointer;
-        }
-        match of.base {
-            Base::Scalar(scalar) => ObjectType::Scalar(scalar),
-            Base::Class(class) => ObjectType::Class(class),
-            Base::Violation => ObjectType::Pointer,
-            Base::Void => ObjectType::Pointer,
+        match self.class_at(class) {
+            None => b"",
+            Some(class) => class.name.bytes(),
         }
     }
 
@@ -71,10 +66,7 @@ impl<'p> Machine<'p> {
         match of {
             ObjectType::Scalar(scalar) => scalar_name(scalar),
             ObjectType::Pointer => b"",
-            ObjectType::Class(class) => match self.program.classes.get(class as usize) {
-                None => b"",
-                Some(class) => class.name.bytes(),
-            },
+            ObjectType::Class(class) => self.class_name(class),
         }
     }
 }
