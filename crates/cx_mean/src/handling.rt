@@ -158,12 +158,16 @@ impl<'p> Machine<'p> {
     }
 
     /// The innermost exception that is held flies again.
+    #[tactic(auto, unfolding(cx_plain_state::specs::Seen::state_of, cx_core::specs::Outcome::either, cx_core::specs::Outcome::current_held, cx_core::specs::Outcome::ends))]
     fn innermost_flown(&self, state: &mut State<'p>) -> Result<Next<'p>, Halt>
         ensures { let p = self.now.program.now in let n = numbers_of p in Steps p (innermost_flown (program_of p)) result state.old state.new }
     {
-        match state.held.first().copied() {
+        match state.held.first() {
             None => Err(Halt::Over(Answer::Ended(Ending::Terminated))),
-            Some(e) => self.flown(state, e),
+            Some(e) => {
+                let e = *e;
+                self.flown(state, e)
+            }
         }
     }
 

@@ -44,10 +44,10 @@ impl<'p> Machine<'p> {
             step: Some(step),
             body,
         };
-        let turned = self.statement_of(StatementTask::Looping(level, turned))?;
-        let turned = self.then_next(turned)?;
-        let first = self.statement_of(StatementTask::Statement(level, first))?;
-        self.under_two(state, first, turned, scope)
+        let turns = self.statement_of(StatementTask::Looping(level, turned))?;
+        let after = self.then_next(turns)?;
+        let begin = self.statement_of(StatementTask::Statement(level, first))?;
+        self.under_two(state, begin, after, scope)
     }
 
     /// The condition of a loop is evaluated.
