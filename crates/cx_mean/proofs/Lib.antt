@@ -1,2 +1,4 @@
 pub mod Pushed
 pub mod Passes
+pub mod Opened
+pub mod Lookups

@@ -2,6 +2,7 @@
 //! for tests alone.
 #![tactic(auto)]
 
+mod argument_frame;
 mod call_frame;
 mod calls;
 mod checks;
@@ -9,6 +10,7 @@ mod expression;
 mod field;
 mod frames;
 mod full;
+mod following_frame;
 mod handling;
 mod leaf;
 mod leaving;
@@ -19,6 +21,7 @@ mod operand;
 mod operand_frame;
 mod operation;
 mod program;
+mod run;
 mod statement;
 mod step;
 mod task;
@@ -28,3 +31,4 @@ mod waiting;
 mod zero;
 
 pub use program::{CallerChecks, Class, Function, PlannedAssertion, Program};
+pub use run::{Meaning, Want};
