@@ -2,3 +2,4 @@ pub mod Pushed
 pub mod Passes
 pub mod Opened
 pub mod Lookups
+pub mod OpenedStatement
