@@ -1,9 +1,6 @@
 //! Handlers of exceptions.
-ghost use Rattle.std.specs.Prelude.{◌≡◌, [], ◌∷◌, IfOk, OnOk, IfErr};
-ghost use Rattle.std.specs.Option.{option_map};
-ghost use Rattle.cx_core.specs.Event as event;
-ghost use Rattle.cx_core.specs.Numbered.{init_of, stmts_of, parameter_of, object_type};
-ghost use Rattle.cx_core.specs.Statements.{type_name};
+ghost use Rattle.std.specs.Prelude.{◌≡◌, ◌∷◌, IfOk, OnOk, IfErr};
+ghost use Rattle.cx_core.specs.Numbered.{init_of, stmts_of, parameter_of};
 ghost use Rattle.cx_core.specs.Tree as tree;
 ghost use Rattle.cx_plain.specs.Task as tasks;
 ghost use Rattle.cx_plain.specs.Step.{step_parameter, step_handled, step_handling};
@@ -12,7 +9,7 @@ ghost use Rattle.cx_plain_state.specs.Ran.{Ran};
 ghost use Rattle.cx_plain_state.specs.Seen.{state_of, type_of, exception_of};
 ghost use Rattle.cx_mean.specs.Seen.{numbers_of, program_of, handler_of, handlers_of};
 ghost use Rattle.cx_mean.specs.Tasks.{level_of};
-ghost use Rattle.cx_mean.specs.Frames.{frames_of, waiting_of, next_of};
+ghost use Rattle.cx_mean.specs.Frames.{frames_of, waiting_of};
 ghost use Rattle.cx_mean.specs.StatementParts.{caught, flown, innermost_flown, flown_again};
 ghost use Rattle.cx_mean.specs.Steps.{Steps};
 
@@ -29,7 +26,12 @@ use std::mem;
 impl<'p> Machine<'p> {
     /// A handler holds an exception. The frame that lets go of it is given.
     #[tactic(auto, unfolding(cx_plain_state::specs::Seen::state_of))]
-    pub(crate) fn enter_handler(&self, state: &mut State<'p>, level: Level, e: Exception) -> Result<Waiting<'p>, Halt>
+    pub(crate) fn enter_handler(
+        &self,
+        state: &mut State<'p>,
+        level: Level,
+        e: Exception,
+    ) -> Result<Waiting<'p>, Halt>
         ensures frame { IfOk result (λ frame. waiting_of (numbers_of self.now.program.now) frame ≡ tasks.holding (level_of level) (exception_of e) (state_of state.old).held) }
         ensures entered { OnOk result (state_of state.new ≡ record (state_of state.old) { held = exception_of e ∷ (state_of state.old).held }) }
         ensures want { IfErr result (λ halt. halt ≡ Want) }
@@ -41,7 +43,15 @@ impl<'p> Machine<'p> {
     }
 
     /// The exception object is what a parameter refers to.
-    fn reference_parameter(&self, state: &mut State<'p>, level: Level, slot: u32, e: Exception, b: &'p [Statement], frames: Vec<Waiting<'p>>) -> Result<Next<'p>, Halt>
+    fn reference_parameter(
+        &self,
+        state: &mut State<'p>,
+        level: Level,
+        slot: u32,
+        e: Exception,
+        b: &'p [Statement],
+        frames: Vec<Waiting<'p>>,
+    ) -> Result<Next<'p>, Halt>
         ensures { let p = self.now.program.now in let n = numbers_of p in Steps p (step_parameter (program_of p) (level_of level) (tree.reference slot) (exception_of e) (stmts_of n b.now) (frames_of n frames.entry.items)) result state.old state.new }
     {
         let place = Address {
@@ -54,7 +64,16 @@ impl<'p> Machine<'p> {
     }
 
     /// A parameter is an object of its own. No exception leaves its initialisation.
-    fn object_parameter(&self, state: &State<'p>, level: Level, slot: u32, i: &'p Initializer, e: Exception, b: &'p [Statement], frames: Vec<Waiting<'p>>) -> Result<Next<'p>, Halt>
+    fn object_parameter(
+        &self,
+        state: &State<'p>,
+        level: Level,
+        slot: u32,
+        i: &'p Initializer,
+        e: Exception,
+        b: &'p [Statement],
+        frames: Vec<Waiting<'p>>,
+    ) -> Result<Next<'p>, Halt>
         ensures { let p = self.now.program.now in let n = numbers_of p in Steps p (step_parameter (program_of p) (level_of level) (tree.object slot (init_of n i.now)) (exception_of e) (stmts_of n b.now) (frames_of n frames.entry.items)) result state.now state.now }
     {
         let block = self.statement_of(StatementTask::Statements(level, b))?;
@@ -65,7 +84,14 @@ impl<'p> Machine<'p> {
     }
 
     /// A handler that declares no object or name for the exception runs its block.
-    fn no_parameter(&self, state: &State<'p>, level: Level, e: Exception, b: &'p [Statement], frames: Vec<Waiting<'p>>) -> Result<Next<'p>, Halt>
+    fn no_parameter(
+        &self,
+        state: &State<'p>,
+        level: Level,
+        e: Exception,
+        b: &'p [Statement],
+        frames: Vec<Waiting<'p>>,
+    ) -> Result<Next<'p>, Halt>
         ensures { let p = self.now.program.now in let n = numbers_of p in Steps p (step_parameter (program_of p) (level_of level) tree.unnamed (exception_of e) (stmts_of n b.now) (frames_of n frames.entry.items)) result state.now state.now }
     {
         let block = self.statement_of(StatementTask::Statements(level, b))?;
@@ -73,7 +99,15 @@ impl<'p> Machine<'p> {
     }
 
     /// What the parameter of a handler needs is done, then its block.
-    pub(crate) fn parameter(&self, state: &mut State<'p>, level: Level, parameter: &'p CatchParameter, e: Exception, b: &'p [Statement], frames: Vec<Waiting<'p>>) -> Result<Next<'p>, Halt>
+    pub(crate) fn parameter(
+        &self,
+        state: &mut State<'p>,
+        level: Level,
+        parameter: &'p CatchParameter,
+        e: Exception,
+        b: &'p [Statement],
+        frames: Vec<Waiting<'p>>,
+    ) -> Result<Next<'p>, Halt>
         ensures { let p = self.now.program.now in let n = numbers_of p in Steps p (step_parameter (program_of p) (level_of level) (parameter_of n parameter.now) (exception_of e) (stmts_of n b.now) (frames_of n frames.entry.items)) result state.old state.new }
     {
         match parameter {
@@ -89,7 +123,12 @@ impl<'p> Machine<'p> {
 
     /// A handler takes an exception. The frames of its scope and of its hold on the exception are given.
     #[tactic(auto, unfolding(cx_plain_state::specs::Seen::state_of))]
-    fn caught(&self, state: &mut State<'p>, level: Level, e: Exception) -> Result<Vec<Waiting<'p>>, Halt>
+    fn caught(
+        &self,
+        state: &mut State<'p>,
+        level: Level,
+        e: Exception,
+    ) -> Result<Vec<Waiting<'p>>, Halt>
         ensures { let p = self.now.program.now in Ran (λ frames. frames_of (numbers_of p) frames.items) (caught (program_of p) (level_of level) (exception_of e) (state_of state.old)) result (state_of state.new) }
     {
         state.append(Event::Catch(self.type_name(e.of)))?;
@@ -99,7 +138,14 @@ impl<'p> Machine<'p> {
     }
 
     /// A handler takes an exception.
-    pub(crate) fn handled(&self, state: &mut State<'p>, level: Level, e: Exception, parameter: &'p CatchParameter, b: &'p [Statement]) -> Result<Next<'p>, Halt>
+    pub(crate) fn handled(
+        &self,
+        state: &mut State<'p>,
+        level: Level,
+        e: Exception,
+        parameter: &'p CatchParameter,
+        b: &'p [Statement],
+    ) -> Result<Next<'p>, Halt>
         ensures { let p = self.now.program.now in let n = numbers_of p in Steps p (step_handled (program_of p) (level_of level) (exception_of e) (parameter_of n parameter.now) (stmts_of n b.now)) result state.old state.new }
     {
         let frames = self.caught(state, level, e)?;
@@ -107,7 +153,13 @@ impl<'p> Machine<'p> {
     }
 
     /// A handler for every exception takes one.
-    fn handled_by_all(&self, state: &mut State<'p>, level: Level, e: Exception, b: &'p [Statement]) -> Result<Next<'p>, Halt>
+    fn handled_by_all(
+        &self,
+        state: &mut State<'p>,
+        level: Level,
+        e: Exception,
+        b: &'p [Statement],
+    ) -> Result<Next<'p>, Halt>
         ensures { let p = self.now.program.now in let n = numbers_of p in Steps p (step_handling (program_of p) (level_of level) (tree.catch_all (stmts_of n b.now) tree.none) (exception_of e)) result state.old state.new }
     {
         state.spend()?;
@@ -116,7 +168,15 @@ impl<'p> Machine<'p> {
     }
 
     /// A handler for a type takes an exception of that type, and others are tried otherwise.
-    fn handled_by_type(&self, state: &mut State<'p>, level: Level, of: ObjectType, handler: &'p Handler, rest: &'p [Handler], e: Exception) -> Result<Next<'p>, Halt>
+    fn handled_by_type(
+        &self,
+        state: &mut State<'p>,
+        level: Level,
+        of: ObjectType,
+        handler: &'p Handler,
+        rest: &'p [Handler],
+        e: Exception,
+    ) -> Result<Next<'p>, Halt>
         ensures { let p = self.now.program.now in let n = numbers_of p in Steps p (step_handling (program_of p) (level_of level) (tree.catch (type_of of) (parameter_of n handler.now.parameter) (stmts_of n handler.now.body.items) (handlers_of n rest.now)) (exception_of e)) result state.old state.new }
     {
         state.spend()?;
@@ -127,7 +187,14 @@ impl<'p> Machine<'p> {
     }
 
     /// A handler is tried, and then others.
-    fn handler(&self, state: &mut State<'p>, level: Level, handler: &'p Handler, rest: &'p [Handler], e: Exception) -> Result<Next<'p>, Halt>
+    fn handler(
+        &self,
+        state: &mut State<'p>,
+        level: Level,
+        handler: &'p Handler,
+        rest: &'p [Handler],
+        e: Exception,
+    ) -> Result<Next<'p>, Halt>
         ensures { let p = self.now.program.now in let n = numbers_of p in Steps p (step_handling (program_of p) (level_of level) (handler_of n handler.now (handlers_of n rest.now)) (exception_of e)) result state.old state.new }
     {
         match &handler.catches {
@@ -140,7 +207,13 @@ impl<'p> Machine<'p> {
     }
 
     /// Handlers are tried in order.
-    pub(crate) fn handling(&self, state: &mut State<'p>, level: Level, h: &'p [Handler], e: Exception) -> Result<Next<'p>, Halt>
+    pub(crate) fn handling(
+        &self,
+        state: &mut State<'p>,
+        level: Level,
+        h: &'p [Handler],
+        e: Exception,
+    ) -> Result<Next<'p>, Halt>
         ensures { let p = self.now.program.now in let n = numbers_of p in Steps p (step_handling (program_of p) (level_of level) (handlers_of n h.now) (exception_of e)) result state.old state.new }
     {
         match h.split_first() {

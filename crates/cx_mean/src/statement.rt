@@ -13,13 +13,18 @@ ghost use Rattle.cx_mean.specs.Steps.{Steps};
 use crate::machine::Machine;
 use crate::task::{Level, StatementTask};
 use crate::waiting::{Completion, Given, Next, StatementFrame, Waiting};
+use cx_code::Kind;
 use cx_core::Statement;
-use cx_plain_state::{Exception, Halt, State, Value};
+use cx_plain_state::{Exception, Halt, State, Value, undefined};
 
 #[tactic(auto, unfolding(cx_core::specs::Outcome::either, cx_core::specs::Outcome::gives, cx_core::specs::Outcome::ends, cx_core::specs::Outcome::throws))]
 impl<'p> Machine<'p> {
     /// A statement, several of them, handlers or a loop are next.
-    pub(crate) fn next_statement(&self, state: &State<'p>, task: StatementTask<'p>) -> Result<Next<'p>, Halt>
+    pub(crate) fn next_statement(
+        &self,
+        state: &State<'p>,
+        task: StatementTask<'p>,
+    ) -> Result<Next<'p>, Halt>
         ensures { let n = numbers_of self.now.program.now in Ran (next_of n) (doing (statement_task_of n task.entry) [] (state_of state.now)) result (state_of state.now) }
     {
         let task = self.statement_of(task)?;
@@ -27,7 +32,12 @@ impl<'p> Machine<'p> {
     }
 
     /// The same under one more frame.
-    pub(crate) fn statement_under(&self, state: &State<'p>, task: StatementTask<'p>, frame: Waiting<'p>) -> Result<Next<'p>, Halt>
+    pub(crate) fn statement_under(
+        &self,
+        state: &State<'p>,
+        task: StatementTask<'p>,
+        frame: Waiting<'p>,
+    ) -> Result<Next<'p>, Halt>
         ensures { let n = numbers_of self.now.program.now in Ran (next_of n) (doing (statement_task_of n task.entry) (waiting_of n frame.entry ∷ []) (state_of state.now)) result (state_of state.now) }
     {
         let task = self.statement_of(task)?;
@@ -35,7 +45,12 @@ impl<'p> Machine<'p> {
     }
 
     /// A statement is run.
-    pub(crate) fn statement(&self, state: &mut State<'p>, level: Level, s: &'p Statement) -> Result<Next<'p>, Halt>
+    pub(crate) fn statement(
+        &self,
+        state: &mut State<'p>,
+        level: Level,
+        s: &'p Statement,
+    ) -> Result<Next<'p>, Halt>
         ensures { let p = self.now.program.now in let n = numbers_of p in Steps p (step_statement (program_of p) (level_of level) (stmt_of n s.now)) result state.old state.new }
     {
         match s {
@@ -72,7 +87,12 @@ impl<'p> Machine<'p> {
     }
 
     /// Statements are run in order.
-    pub(crate) fn statements(&self, state: &mut State<'p>, level: Level, b: &'p [Statement]) -> Result<Next<'p>, Halt>
+    pub(crate) fn statements(
+        &self,
+        state: &mut State<'p>,
+        level: Level,
+        b: &'p [Statement],
+    ) -> Result<Next<'p>, Halt>
         ensures { let p = self.now.program.now in let n = numbers_of p in Steps p (step_statements (program_of p) (level_of level) (stmts_of n b.now)) result state.old state.new }
     {
         match b.split_first() {
@@ -85,7 +105,12 @@ impl<'p> Machine<'p> {
     }
 
     /// Statements are run in a scope of their own.
-    pub(crate) fn block(&self, state: &mut State<'p>, level: Level, b: &'p [Statement]) -> Result<Next<'p>, Halt>
+    pub(crate) fn block(
+        &self,
+        state: &mut State<'p>,
+        level: Level,
+        b: &'p [Statement],
+    ) -> Result<Next<'p>, Halt>
         ensures { let p = self.now.program.now in let n = numbers_of p in Steps p (step_task (program_of p) (tasks.block (level_of level) (stmts_of n b.now))) result state.old state.new }
     {
         let scope = self.enter_scope(state, level);
@@ -93,11 +118,20 @@ impl<'p> Machine<'p> {
     }
 
     /// A statement of several is done.
-    pub(crate) fn sequence(&self, state: &mut State<'p>, level: Level, rest: &'p [Statement], completion: Completion<'p>) -> Result<Next<'p>, Halt>
+    pub(crate) fn sequence(
+        &self,
+        state: &mut State<'p>,
+        level: Level,
+        rest: &'p [Statement],
+        completion: Completion<'p>,
+    ) -> Result<Next<'p>, Halt>
         ensures { let p = self.now.program.now in let n = numbers_of p in Steps p (step_sequence (program_of p) (level_of level) (stmts_of n rest.now) (completion_of completion.entry)) result state.old state.new }
     {
         match completion {
-            Completion::OnToNext => self.next_statement(state, StatementTask::Statements(level, rest)),
+            Completion::OnToNext => self.next_statement(
+                state,
+                StatementTask::Statements(level, rest),
+            ),
             Completion::Break => Ok(Next::Give(Given::Completion(Completion::Break))),
             Completion::Continue => Ok(Next::Give(Given::Completion(Completion::Continue))),
             Completion::Return(v) => Ok(Next::Give(Given::Completion(Completion::Return(v)))),
@@ -105,7 +139,11 @@ impl<'p> Machine<'p> {
     }
 
     /// Statements are run, handlers are tried, or turns of a loop are taken.
-    pub(crate) fn statement_task(&self, state: &mut State<'p>, task: StatementTask<'p>) -> Result<Next<'p>, Halt>
+    pub(crate) fn statement_task(
+        &self,
+        state: &mut State<'p>,
+        task: StatementTask<'p>,
+    ) -> Result<Next<'p>, Halt>
         ensures { let p = self.now.program.now in let n = numbers_of p in Steps p (step_task (program_of p) (statement_task_of n task.entry)) result state.old state.new }
     {
         match task {
@@ -119,8 +157,47 @@ impl<'p> Machine<'p> {
         }
     }
 
+    /// The condition of an `if` is given.
+    fn branch_given(
+        &self,
+        state: &mut State<'p>,
+        level: Level,
+        a: &'p Box<Statement>,
+        b: &'p Box<Statement>,
+        given: Given<'p>,
+    ) -> Result<Next<'p>, Halt>
+        ensures { let p = self.now.program.now in let n = numbers_of p in Steps p (step_given (program_of p) (tasks.branch (level_of level) (stmt_of n a.now.value) (stmt_of n b.now.value)) (given_of given.entry)) result state.old state.new }
+    {
+        match given {
+            Given::Truth(true) => self.next_statement(state, StatementTask::Statement(level, a)),
+            Given::Truth(false) => self.next_statement(state, StatementTask::Statement(level, b)),
+            _ => Err(undefined(Kind::Mixed)),
+        }
+    }
+
+    /// How a statement of several was left is given.
+    fn sequence_given(
+        &self,
+        state: &mut State<'p>,
+        level: Level,
+        rest: &'p [Statement],
+        given: Given<'p>,
+    ) -> Result<Next<'p>, Halt>
+        ensures { let p = self.now.program.now in let n = numbers_of p in Steps p (step_given (program_of p) (tasks.sequence (level_of level) (stmts_of n rest.now)) (given_of given.entry)) result state.old state.new }
+    {
+        match given {
+            Given::Completion(c) => self.sequence(state, level, rest, c),
+            _ => Err(undefined(Kind::Mixed)),
+        }
+    }
+
     /// What waits for a condition or a statement is given something.
-    pub(crate) fn statement_given(&self, state: &mut State<'p>, frame: StatementFrame<'p>, given: Given<'p>) -> Result<Next<'p>, Halt>
+    pub(crate) fn statement_given(
+        &self,
+        state: &mut State<'p>,
+        frame: StatementFrame<'p>,
+        given: Given<'p>,
+    ) -> Result<Next<'p>, Halt>
         ensures { let p = self.now.program.now in let n = numbers_of p in Steps p (step_given (program_of p) (statement_frame_of n frame.entry) (given_of given.entry)) result state.old state.new }
     {
         match frame {
@@ -137,7 +214,12 @@ impl<'p> Machine<'p> {
     }
 
     /// An exception passes what waits for a condition or a statement.
-    pub(crate) fn statement_thrown(&self, state: &mut State<'p>, frame: StatementFrame<'p>, e: Exception) -> Result<Next<'p>, Halt>
+    pub(crate) fn statement_thrown(
+        &self,
+        state: &mut State<'p>,
+        frame: StatementFrame<'p>,
+        e: Exception,
+    ) -> Result<Next<'p>, Halt>
         ensures { let p = self.now.program.now in let n = numbers_of p in Steps p (step_thrown (program_of p) (statement_frame_of n frame.entry) (exception_of e)) result state.old state.new }
     {
         match frame {

@@ -21,7 +21,12 @@ use cx_plain_state::{Halt, ObjectType, State, Value};
 #[tactic(auto, unfolding(cx_core::specs::Outcome::either, cx_core::specs::Outcome::gives, cx_core::specs::Outcome::ends, cx_core::specs::Outcome::throws))]
 impl<'p> Machine<'p> {
     /// An expression is evaluated, and its value discarded.
-    pub(crate) fn discarded(&self, state: &mut State<'p>, level: Level, e: &'p Expression) -> Result<Next<'p>, Halt>
+    pub(crate) fn discarded(
+        &self,
+        state: &mut State<'p>,
+        level: Level,
+        e: &'p Expression,
+    ) -> Result<Next<'p>, Halt>
         ensures { let p = self.now.program.now in let n = numbers_of p in Steps p (step_statement (program_of p) (level_of level) (tree.expression (expr_of n e.now))) result state.old state.new }
     {
         let full = self.enter_full_expression(state, level);
@@ -31,7 +36,14 @@ impl<'p> Machine<'p> {
     }
 
     /// A variable that isn't a reference is declared.
-    pub(crate) fn variable_declared(&self, state: &State<'p>, level: Level, slot: u32, of: ObjectType, i: &'p Initializer) -> Result<Next<'p>, Halt>
+    pub(crate) fn variable_declared(
+        &self,
+        state: &State<'p>,
+        level: Level,
+        slot: u32,
+        of: ObjectType,
+        i: &'p Initializer,
+    ) -> Result<Next<'p>, Halt>
         ensures { let p = self.now.program.now in let n = numbers_of p in Steps p (step_statement (program_of p) (level_of level) (tree.variable_declaration slot (type_of of) (init_of n i.now))) result state.now state.now }
     {
         let task = Task::Object(ObjectTask::Declaring(level, slot, of, i));
@@ -39,7 +51,13 @@ impl<'p> Machine<'p> {
     }
 
     /// A reference is declared. One that is named in its own initialiser denotes nothing yet.
-    pub(crate) fn reference_declared(&self, state: &mut State<'p>, level: Level, slot: u32, e: &'p Expression) -> Result<Next<'p>, Halt>
+    pub(crate) fn reference_declared(
+        &self,
+        state: &mut State<'p>,
+        level: Level,
+        slot: u32,
+        e: &'p Expression,
+    ) -> Result<Next<'p>, Halt>
         ensures { let p = self.now.program.now in let n = numbers_of p in Steps p (step_statement (program_of p) (level_of level) (tree.reference_declaration slot (expr_of n e.now))) result state.old state.new }
     {
         state.bind(slot, Value::Null)?;
@@ -51,15 +69,31 @@ impl<'p> Machine<'p> {
     }
 
     /// One of two statements is run, as a condition decides.
-    pub(crate) fn branched(&self, state: &State<'p>, level: Level, c: &'p Operand, a: &'p Box<Statement>, b: &'p Box<Statement>) -> Result<Next<'p>, Halt>
+    pub(crate) fn branched(
+        &self,
+        state: &State<'p>,
+        level: Level,
+        c: &'p Operand,
+        a: &'p Box<Statement>,
+        b: &'p Box<Statement>,
+    ) -> Result<Next<'p>, Halt>
         ensures { let p = self.now.program.now in let n = numbers_of p in Steps p (step_statement (program_of p) (level_of level) (tree.if_else (operand_of n c.now) (stmt_of n a.now.value) (stmt_of n b.now.value))) result state.now state.now }
     {
         let task = Task::Expression(ExpressionTask::EvaluatedTruth(level, c));
-        self.under(state, task, Waiting::Statement(StatementFrame::Branch(level, a, b)))
+        self.under(
+            state,
+            task,
+            Waiting::Statement(StatementFrame::Branch(level, a, b)),
+        )
     }
 
     /// A function is left with a value.
-    pub(crate) fn value_returned(&self, state: &mut State<'p>, level: Level, a: &'p Operand) -> Result<Next<'p>, Halt>
+    pub(crate) fn value_returned(
+        &self,
+        state: &mut State<'p>,
+        level: Level,
+        a: &'p Operand,
+    ) -> Result<Next<'p>, Halt>
         ensures { let p = self.now.program.now in let n = numbers_of p in Steps p (step_statement (program_of p) (level_of level) (tree.return_value (operand_of n a.now))) result state.old state.new }
     {
         let full = self.enter_full_expression(state, level);
@@ -70,7 +104,12 @@ impl<'p> Machine<'p> {
     }
 
     /// A function is left with what a reference denotes.
-    pub(crate) fn reference_returned(&self, state: &mut State<'p>, level: Level, e: &'p Expression) -> Result<Next<'p>, Halt>
+    pub(crate) fn reference_returned(
+        &self,
+        state: &mut State<'p>,
+        level: Level,
+        e: &'p Expression,
+    ) -> Result<Next<'p>, Halt>
         ensures { let p = self.now.program.now in let n = numbers_of p in Steps p (step_statement (program_of p) (level_of level) (tree.return_reference (expr_of n e.now))) result state.old state.new }
     {
         let full = self.enter_full_expression(state, level);
@@ -80,7 +119,12 @@ impl<'p> Machine<'p> {
     }
 
     /// A function is left once its result object is initialised.
-    pub(crate) fn object_returned(&self, state: &mut State<'p>, level: Level, i: &'p Initializer) -> Result<Next<'p>, Halt>
+    pub(crate) fn object_returned(
+        &self,
+        state: &mut State<'p>,
+        level: Level,
+        i: &'p Initializer,
+    ) -> Result<Next<'p>, Halt>
         ensures { let p = self.now.program.now in let n = numbers_of p in Steps p (step_statement (program_of p) (level_of level) (tree.return_object (init_of n i.now))) result state.old state.new }
     {
         let full = self.enter_full_expression(state, level);
@@ -93,7 +137,13 @@ impl<'p> Machine<'p> {
     }
 
     /// A contract assertion is checked.
-    pub(crate) fn asserted(&self, state: &State<'p>, level: Level, assertion: u32, predicate: &'p Operand) -> Result<Next<'p>, Halt>
+    pub(crate) fn asserted(
+        &self,
+        state: &State<'p>,
+        level: Level,
+        assertion: u32,
+        predicate: &'p Operand,
+    ) -> Result<Next<'p>, Halt>
         ensures { let p = self.now.program.now in let n = numbers_of p in Steps p (step_statement (program_of p) (level_of level) (tree.contract_assert (n.assertion assertion (operand_of n predicate.now)))) result state.now state.now }
     {
         let row = Row::Statement(assertion, predicate);
@@ -102,7 +152,13 @@ impl<'p> Machine<'p> {
     }
 
     /// An exception is thrown, once its exception object is made.
-    pub(crate) fn exception_made(&self, state: &mut State<'p>, level: Level, of: ObjectType, i: &'p Initializer) -> Result<Next<'p>, Halt>
+    pub(crate) fn exception_made(
+        &self,
+        state: &mut State<'p>,
+        level: Level,
+        of: ObjectType,
+        i: &'p Initializer,
+    ) -> Result<Next<'p>, Halt>
         ensures { let p = self.now.program.now in let n = numbers_of p in Steps p (step_statement (program_of p) (level_of level) (tree.throw (type_of of) (init_of n i.now))) result state.old state.new }
     {
         let full = self.enter_full_expression(state, level);
@@ -112,7 +168,13 @@ impl<'p> Machine<'p> {
     }
 
     /// A block is run, whose exceptions handlers may take.
-    pub(crate) fn tried(&self, state: &State<'p>, level: Level, b: &'p [Statement], h: &'p [Handler]) -> Result<Next<'p>, Halt>
+    pub(crate) fn tried(
+        &self,
+        state: &State<'p>,
+        level: Level,
+        b: &'p [Statement],
+        h: &'p [Handler],
+    ) -> Result<Next<'p>, Halt>
         ensures { let p = self.now.program.now in let n = numbers_of p in Steps p (step_statement (program_of p) (level_of level) (tree.try (stmts_of n b.now) (handlers_of n h.now))) result state.now state.now }
     {
         let frame = Waiting::Statement(StatementFrame::Catching(level, h));

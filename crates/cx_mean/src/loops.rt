@@ -1,15 +1,13 @@
 //! Loops.
 ghost use Rattle.std.specs.Option.{option_map};
 ghost use Rattle.std.specs.Prelude.{suc};
-ghost use Rattle.cx_core.specs.Numbered.{operand_of, stmt_of, stmts_of, condition_of};
+ghost use Rattle.cx_core.specs.Numbered.{operand_of, stmt_of, condition_of};
 ghost use Rattle.cx_core.specs.Tree as tree;
 ghost use Rattle.cx_plain.specs.Task as tasks;
 ghost use Rattle.cx_plain.specs.Step.{step_statement, step_testing, step_turns, step_turn_done, step_task, step_given};
-ghost use Rattle.cx_plain_state.specs.Ran.{Ran};
-ghost use Rattle.cx_plain_state.specs.Seen.{state_of};
 ghost use Rattle.cx_mean.specs.Seen.{numbers_of, program_of};
 ghost use Rattle.cx_mean.specs.Tasks.{level_of, loop_of};
-ghost use Rattle.cx_mean.specs.Frames.{completion_of, given_of, next_of};
+ghost use Rattle.cx_mean.specs.Frames.{completion_of, given_of};
 ghost use Rattle.cx_mean.specs.StatementParts.{after_turn};
 ghost use Rattle.cx_mean.specs.Steps.{Steps};
 
@@ -23,7 +21,13 @@ use cx_plain_state::{Answer, Halt, State, undefined};
 #[tactic(auto, unfolding(cx_core::specs::Outcome::either, cx_core::specs::Outcome::gives, cx_core::specs::Outcome::ends, cx_core::specs::Outcome::throws))]
 impl<'p> Machine<'p> {
     /// A loop with no first statement is run.
-    pub(crate) fn while_loop(&self, state: &State<'p>, level: Level, c: &'p Operand, body: &'p Box<Statement>) -> Result<Next<'p>, Halt>
+    pub(crate) fn while_loop(
+        &self,
+        state: &State<'p>,
+        level: Level,
+        c: &'p Operand,
+        body: &'p Box<Statement>,
+    ) -> Result<Next<'p>, Halt>
         ensures { let p = self.now.program.now in let n = numbers_of p in Steps p (step_statement (program_of p) (level_of level) (tree.while_loop (operand_of n c.now) (stmt_of n body.now.value))) result state.now state.now }
     {
         let turned = Loop {
@@ -35,7 +39,15 @@ impl<'p> Machine<'p> {
     }
 
     /// A loop with a first statement is run, in a scope of its own.
-    pub(crate) fn for_loop(&self, state: &mut State<'p>, level: Level, first: &'p Box<Statement>, condition: Option<&'p Operand>, step: &'p Box<Statement>, body: &'p Box<Statement>) -> Result<Next<'p>, Halt>
+    pub(crate) fn for_loop(
+        &self,
+        state: &mut State<'p>,
+        level: Level,
+        first: &'p Box<Statement>,
+        condition: Option<&'p Operand>,
+        step: &'p Box<Statement>,
+        body: &'p Box<Statement>,
+    ) -> Result<Next<'p>, Halt>
         ensures { let p = self.now.program.now in let n = numbers_of p in Steps p (step_statement (program_of p) (level_of level) (tree.for_loop (stmt_of n first.now.value) (condition_of n (option_map (λ a. a.now) condition.entry)) (stmt_of n step.now.value) (stmt_of n body.now.value))) result state.old state.new }
     {
         let scope = self.enter_scope(state, level);
@@ -51,7 +63,12 @@ impl<'p> Machine<'p> {
     }
 
     /// The condition of a loop is evaluated.
-    pub(crate) fn testing(&self, state: &mut State<'p>, level: Level, condition: Option<&'p Operand>) -> Result<Next<'p>, Halt>
+    pub(crate) fn testing(
+        &self,
+        state: &mut State<'p>,
+        level: Level,
+        condition: Option<&'p Operand>,
+    ) -> Result<Next<'p>, Halt>
         ensures { let p = self.now.program.now in let n = numbers_of p in Steps p (step_testing (program_of p) (level_of level) (condition_of n (option_map (λ a. a.now) condition.entry))) result state.old state.new }
     {
         match condition {
@@ -65,7 +82,12 @@ impl<'p> Machine<'p> {
 
     /// A loop is run: at most as many turns as units of the budget are left.
     #[tactic(auto, unfolding(cx_plain_state::specs::Seen::state_of, cx_core::specs::Outcome::gives))]
-    pub(crate) fn looping(&self, state: &mut State<'p>, level: Level, turned: Loop<'p>) -> Result<Next<'p>, Halt>
+    pub(crate) fn looping(
+        &self,
+        state: &mut State<'p>,
+        level: Level,
+        turned: Loop<'p>,
+    ) -> Result<Next<'p>, Halt>
         ensures { let p = self.now.program.now in let n = numbers_of p in Steps p (step_task (program_of p) (tasks.looping (level_of level) (loop_of n turned.entry))) result state.old state.new }
     {
         let turns = state.budget;
@@ -73,16 +95,32 @@ impl<'p> Machine<'p> {
     }
 
     /// A turn of a loop begins, and so many may follow.
-    fn turn(&self, state: &mut State<'p>, level: Level, turned: Loop<'p>, turns: u64) -> Result<Next<'p>, Halt>
+    fn turn(
+        &self,
+        state: &mut State<'p>,
+        level: Level,
+        turned: Loop<'p>,
+        turns: u64,
+    ) -> Result<Next<'p>, Halt>
         ensures { let p = self.now.program.now in let n = numbers_of p in Steps p (step_turns (program_of p) (level_of level) (loop_of n turned.entry) (suc turns)) result state.old state.new }
     {
         state.spend()?;
         let frame = Waiting::Statement(StatementFrame::TurnTested(level, turned, turns));
-        self.statement_under(state, StatementTask::Testing(level, turned.condition), frame)
+        self.statement_under(
+            state,
+            StatementTask::Testing(level, turned.condition),
+            frame,
+        )
     }
 
     /// A loop takes at most so many turns.
-    pub(crate) fn turns(&self, state: &mut State<'p>, level: Level, turned: Loop<'p>, turns: u64) -> Result<Next<'p>, Halt>
+    pub(crate) fn turns(
+        &self,
+        state: &mut State<'p>,
+        level: Level,
+        turned: Loop<'p>,
+        turns: u64,
+    ) -> Result<Next<'p>, Halt>
         ensures { let p = self.now.program.now in let n = numbers_of p in Steps p (step_turns (program_of p) (level_of level) (loop_of n turned.entry) turns) result state.old state.new }
     {
         match turns.checked_sub(1) {
@@ -92,7 +130,13 @@ impl<'p> Machine<'p> {
     }
 
     /// After a turn of a loop comes its step, and then the next turn.
-    fn after_turn(&self, state: &State<'p>, level: Level, turned: Loop<'p>, turns: u64) -> Result<Next<'p>, Halt>
+    fn after_turn(
+        &self,
+        state: &State<'p>,
+        level: Level,
+        turned: Loop<'p>,
+        turns: u64,
+    ) -> Result<Next<'p>, Halt>
         ensures { let p = self.now.program.now in let n = numbers_of p in Steps p (after_turn (level_of level) (loop_of n turned.entry) turns) result state.now state.now }
     {
         match turned.step {
@@ -106,7 +150,14 @@ impl<'p> Machine<'p> {
     }
 
     /// A turn of a loop is done.
-    pub(crate) fn turn_done(&self, state: &mut State<'p>, level: Level, turned: Loop<'p>, turns: u64, completion: Completion<'p>) -> Result<Next<'p>, Halt>
+    pub(crate) fn turn_done(
+        &self,
+        state: &mut State<'p>,
+        level: Level,
+        turned: Loop<'p>,
+        turns: u64,
+        completion: Completion<'p>,
+    ) -> Result<Next<'p>, Halt>
         ensures { let p = self.now.program.now in let n = numbers_of p in Steps p (step_turn_done (program_of p) (level_of level) (loop_of n turned.entry) turns (completion_of completion.entry)) result state.old state.new }
     {
         match completion {
@@ -118,7 +169,14 @@ impl<'p> Machine<'p> {
     }
 
     /// The condition of a loop is given.
-    pub(crate) fn test_given(&self, state: &mut State<'p>, level: Level, turned: Loop<'p>, turns: u64, given: Given<'p>) -> Result<Next<'p>, Halt>
+    pub(crate) fn test_given(
+        &self,
+        state: &mut State<'p>,
+        level: Level,
+        turned: Loop<'p>,
+        turns: u64,
+        given: Given<'p>,
+    ) -> Result<Next<'p>, Halt>
         ensures { let p = self.now.program.now in let n = numbers_of p in Steps p (step_given (program_of p) (tasks.turn_tested (level_of level) (loop_of n turned.entry) turns) (given_of given.entry)) result state.old state.new }
     {
         match given {
@@ -132,32 +190,18 @@ impl<'p> Machine<'p> {
     }
 
     /// How the body of a loop was left is given.
-    pub(crate) fn turn_given(&self, state: &mut State<'p>, level: Level, turned: Loop<'p>, turns: u64, given: Given<'p>) -> Result<Next<'p>, Halt>
+    pub(crate) fn turn_given(
+        &self,
+        state: &mut State<'p>,
+        level: Level,
+        turned: Loop<'p>,
+        turns: u64,
+        given: Given<'p>,
+    ) -> Result<Next<'p>, Halt>
         ensures { let p = self.now.program.now in let n = numbers_of p in Steps p (step_given (program_of p) (tasks.turn_done (level_of level) (loop_of n turned.entry) turns) (given_of given.entry)) result state.old state.new }
     {
         match given {
             Given::Completion(c) => self.turn_done(state, level, turned, turns, c),
-            _ => Err(undefined(Kind::Mixed)),
-        }
-    }
-
-    /// The condition of an `if` is given.
-    pub(crate) fn branch_given(&self, state: &mut State<'p>, level: Level, a: &'p Box<Statement>, b: &'p Box<Statement>, given: Given<'p>) -> Result<Next<'p>, Halt>
-        ensures { let p = self.now.program.now in let n = numbers_of p in Steps p (step_given (program_of p) (tasks.branch (level_of level) (stmt_of n a.now.value) (stmt_of n b.now.value)) (given_of given.entry)) result state.old state.new }
-    {
-        match given {
-            Given::Truth(true) => self.next_statement(state, StatementTask::Statement(level, a)),
-            Given::Truth(false) => self.next_statement(state, StatementTask::Statement(level, b)),
-            _ => Err(undefined(Kind::Mixed)),
-        }
-    }
-
-    /// How a statement of several was left is given.
-    pub(crate) fn sequence_given(&self, state: &mut State<'p>, level: Level, rest: &'p [Statement], given: Given<'p>) -> Result<Next<'p>, Halt>
-        ensures { let p = self.now.program.now in let n = numbers_of p in Steps p (step_given (program_of p) (tasks.sequence (level_of level) (stmts_of n rest.now)) (given_of given.entry)) result state.old state.new }
-    {
-        match given {
-            Given::Completion(c) => self.sequence(state, level, rest, c),
             _ => Err(undefined(Kind::Mixed)),
         }
     }
