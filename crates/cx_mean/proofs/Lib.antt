@@ -3,3 +3,4 @@ pub mod Passes
 pub mod Opened
 pub mod Lookups
 pub mod OpenedStatement
+pub mod Stepping

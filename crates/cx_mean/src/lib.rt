@@ -3,6 +3,7 @@
 #![tactic(auto)]
 
 mod argument_frame;
+mod begin;
 mod call_frame;
 mod calls;
 mod checks;

@@ -2,7 +2,7 @@
 ghost use Rattle.std.specs.Prelude.{◌≡◌, [], map, reverse, IfOk, IfSome};
 ghost use Rattle.cx_core.specs.Numbered.{Numbers};
 ghost use Rattle.cx_core.specs.Meaning as meaning;
-ghost use Rattle.cx_core.specs.Meaning.{mean, start};
+ghost use Rattle.cx_core.specs.Meaning.{mean};
 ghost use Rattle.cx_core.specs.Outcome as outcome;
 ghost use Rattle.cx_core.specs.Outcome.{Outcome};
 ghost use Rattle.cx_plain.specs.Task as tasks;
@@ -55,6 +55,12 @@ pub(crate) enum Stop<'p> {
 
 impl From<std::alloc::AllocError> for Want {
     fn from(_: std::alloc::AllocError) -> Self {
+        Want::Means
+    }
+}
+
+impl<T: Drop> From<std::alloc::AllocFailed<T>> for Want {
+    fn from(_: std::alloc::AllocFailed<T>) -> Self {
         Want::Means
     }
 }
@@ -163,17 +169,13 @@ impl<'p> Machine<'p> {
             at = match self.step(state, &mut stack, at) {
                 Ok(at) => at,
                 Err(Stop::Over(answer)) => return Ok(answer),
-                Err(Stop::Left(left)) => return conclude(left),
+                Err(Stop::Left(left)) => {
+                    let answer = conclude(left)?;
+                    return Ok(answer);
+                }
                 Err(Stop::Want) => return Err(Want::Means),
             };
         }
-        Err(Want::Means)
-    }
-
-    /// A run that has not begun: each global has its first value.
-    fn begin(&self, begins: &'p [Evaluation], input: &'p [u8], budget: u64) -> Result<State<'p>, Want>
-        ensures { IfOk result (λ state. state_of state ≡ start (program_of self.now.program.now) (map evaluation_of begins.now) input.now budget) }
-    {
         Err(Want::Means)
     }
 }

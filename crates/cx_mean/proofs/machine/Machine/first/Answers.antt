@@ -4,4 +4,4 @@ use Rattle.cx_mean.proofs.machine.Machine.first.Goals as goal
 
 pub returns : goal.returns
 unfolding program_of
-returns c = rw c.new.ensures.items refl
+returns c = rw c.new-arguments.ensures.items refl
