@@ -1,3 +1,6 @@
+pub mod Pushed
+pub mod Passes
 pub mod Opened
 pub mod Lookups
+pub mod OpenedStatement
 pub mod Stepping

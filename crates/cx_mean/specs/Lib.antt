@@ -3,4 +3,5 @@ pub mod Tasks
 pub mod Frames
 pub mod Steps
 pub mod Parts
+pub mod StatementParts
 pub mod Runs
