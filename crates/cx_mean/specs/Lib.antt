@@ -3,3 +3,4 @@ pub mod Tasks
 pub mod Frames
 pub mod Steps
 pub mod Parts
+pub mod CallParts

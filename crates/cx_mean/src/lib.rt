@@ -2,6 +2,7 @@
 //! for tests alone.
 #![tactic(auto)]
 
+mod acting;
 mod call_frame;
 mod calls;
 mod checks;
@@ -11,11 +12,13 @@ mod frames;
 mod handling;
 mod leaf;
 mod leaving;
+mod lookup;
 mod machine;
 mod object;
 mod operand;
 mod operand_frame;
 mod program;
+mod row;
 mod statement;
 mod step;
 mod task;
