@@ -17,7 +17,7 @@ ghost use Rattle.cx_mean.specs.Frames.{frames_of, waiting_of};
 ghost use Rattle.cx_mean.specs.CallParts.{active_frame, constructor_frames, destructor_frames, entered, parameter_place};
 ghost use Rattle.cx_mean.specs.Steps.{Steps};
 
-use crate::lookup::is_counted;
+use crate::asked::is_counted;
 use crate::machine::Machine;
 use crate::program::Function;
 use crate::task::{Call, CallTask, CheckTask, Level, ObjectTask, Row, StatementTask, Task};
@@ -151,9 +151,9 @@ impl<'p> Machine<'p> {
         ensures { let p = self.now.program.now in let n = numbers_of p in (f : parts.Function) (c : CalledBy) → Steps p (step_acting (program_of p) (level_of level) (parts.implicit_constructor class) f c (frames_of n frames.entry.items)) result state.old state.new }
     {
         let constructing = self.enter_construction(state, level);
-        let definition = self.class_at(state, class)?;
+        let definition = self.class_with(state, class)?;
         let frames = self.implicit_frames(constructing, frames)?;
-        let task = ObjectTask::DefaultFields(level, &definition.definition.fields);
+        let task = ObjectTask::DefaultFields(level, definition.definition.fields.items());
         self.under_all(state, Task::Object(task), frames)
     }
 
@@ -162,11 +162,11 @@ impl<'p> Machine<'p> {
         ensures { let p = self.now.program.now in let n = numbers_of p in (f : parts.Function) (c : CalledBy) → Steps p (step_acting (program_of p) (level_of level) (parts.implicit_copy_constructor class) f c (frames_of n frames.entry.items)) result state.old state.new }
     {
         let constructing = self.enter_construction(state, level);
-        let definition = self.class_at(state, class)?;
+        let definition = self.class_with(state, class)?;
         let to = parameter_place(state, 0)?;
         let source = parameter_place(state, 1)?;
         let frames = self.implicit_frames(constructing, frames)?;
-        let task = ObjectTask::CopyingMembers(level, &definition.definition.fields, source, to);
+        let task = ObjectTask::CopyingMembers(level, definition.definition.fields.items(), source, to);
         self.under_all(state, Task::Object(task), frames)
     }
 
@@ -188,7 +188,7 @@ impl<'p> Machine<'p> {
         ensures { let p = self.now.program.now in let n = numbers_of p in Steps p (step_destructor (program_of p) (level_of level) (function_of n f.now) class (stmts_of n b.now) (frames_of n frames.entry.items)) result state.old state.new }
     {
         let a = parameter_place(state, 0)?;
-        let definition = self.class_at(state, class)?;
+        let definition = self.class_with(state, class)?;
         let told = CallFrame::Destroyed(definition.name.bytes(), a);
         let frames = self.framed(frames, Waiting::Call(told))?;
         let frames = self.destructor_frames(level, f, class, b, a, frames)?;

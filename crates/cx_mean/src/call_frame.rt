@@ -87,7 +87,7 @@ impl<'p> Machine<'p> {
         match kind {
             ResultKind::Reference => {
                 let within = self.enter_result(state, v)?;
-                self.under_both(state, task, posted, within)
+                self.under_two(state, task, within, posted)
             }
             _ => self.under(state, task, posted),
         }

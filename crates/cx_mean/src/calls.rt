@@ -52,7 +52,7 @@ impl<'p> Machine<'p> {
         ensures { let p = self.now.program.now in let n = numbers_of p in Steps p (step_active (program_of p) (level_of level) (call_of c.entry)) result state.old state.new }
     {
         state.spend()?;
-        let f = self.function_at(state, c.function)?;
+        let f = self.function_with(state, c.function)?;
         self.enter(state, level, f, c)
     }
 
@@ -88,7 +88,7 @@ impl<'p> Machine<'p> {
         let scope = self.enter_scope(state, level);
         let call = Waiting::Argument(ArgumentFrame::CallIntoObject(level, function, object));
         let task = Task::Expression(ExpressionTask::Arguments(level, a));
-        self.under_both(state, task, scope, call)
+        self.under_two(state, task, call, scope)
     }
 
     /// A constructor or destructor is called on an object.
@@ -110,7 +110,7 @@ impl<'p> Machine<'p> {
         let definers = Row::Specifiers(&f.preconditions);
         let rest = self.then(Task::Check(CheckTask::Checks(level, Party::Definer, definers)))?;
         let within = self.enter_unit(state, c.unit)?;
-        self.under_both(state, task, rest, within)
+        self.under_two(state, task, within, rest)
     }
 
     /// The checks after a body.
@@ -140,7 +140,7 @@ impl<'p> Machine<'p> {
         let statements = Box::new(self.alloc, StatementTask::Statements(level, b))?;
         let scope = self.enter_scope(state, level);
         let given = Waiting::Call(CallFrame::ValueGiven(kind));
-        self.under_both(state, Task::Statement(statements), given, scope)
+        self.under_two(state, Task::Statement(statements), scope, given)
     }
 
     /// A call, or a part of one.

@@ -63,7 +63,7 @@ impl<'p> Machine<'p> {
         let task = Task::Expression(ExpressionTask::EvaluatedTruth(level, check.predicate));
         let verdict = CallFrame::Verdict(level, &check.planned.assertion, check.planned.semantic);
         let rest = Task::Check(CheckTask::Evaluations(level, party, left, due));
-        self.under_both(state, task, self.then(rest)?, Waiting::Call(verdict))
+        self.under_two(state, task, Waiting::Call(verdict), self.then(rest)?)
     }
 
     /// The evaluation that is told begins, and so many follow.
@@ -165,7 +165,7 @@ impl<'p> Machine<'p> {
             Semantic::Enforce => {
                 let holding = self.hold(state, level, e)?;
                 let task = Task::Check(CheckTask::HandlingViolation(level, report));
-                self.under_both(state, task, Waiting::Call(CallFrame::Terminate), holding)
+                self.under_two(state, task, holding, Waiting::Call(CallFrame::Terminate))
             }
             Semantic::QuickEnforce => Err(Halt::Over(Answer::Ended(Ending::ContractTerminated))),
         }

@@ -3,6 +3,7 @@
 #![tactic(auto)]
 
 mod acting;
+mod asked;
 mod call_frame;
 mod calls;
 mod checks;
@@ -17,11 +18,13 @@ mod machine;
 mod object;
 mod operand;
 mod operand_frame;
+mod operation;
 mod program;
 mod row;
 mod statement;
 mod step;
 mod task;
 mod waiting;
+mod zero;
 
 pub use program::{CallerChecks, Class, Function, PlannedAssertion, Program};

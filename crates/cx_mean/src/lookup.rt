@@ -1,97 +1,41 @@
-//! What the program has under a number.
-ghost use Rattle.std.specs.Prelude.{◌≡◌, length, slice_get};
+//! The functions, classes and types of the program, by the numbers in its trees.
+ghost use Rattle.std.specs.Prelude.{◌≡◌, slice_get};
 ghost use Rattle.std.specs.Option.{option_map};
-ghost use Rattle.cx_core.specs.Leaving.{class_at};
-ghost use Rattle.cx_core.specs.Meaning.{caller_checks, checks_at, is_implicit_at, or_no_checks};
-ghost use Rattle.cx_core.specs.Program.{is_counted};
-ghost use Rattle.cx_core.specs.Numbered.{Numbers};
-ghost use Rattle.cx_plain.specs.Step.{no_calls};
-ghost use Rattle.cx_plain_state.specs.Ran.{Ran};
-ghost use Rattle.cx_plain_state.specs.Seen.{state_of};
-ghost use Rattle.cx_mean.specs.Seen.{body_of, caller_of, checks_of, class_of, function_of, numbers_of, program_of};
-ghost use Rattle.cx_mean.specs.Tasks.{call_of};
-ghost use Rattle.cx_mean.specs.CallParts.{function_with};
+ghost use Rattle.cx_core.specs.Numbered.{object_type};
+ghost use Rattle.cx_plain_state.specs.Seen.{type_of};
+ghost use Rattle.cx_mean.specs.Seen.{numbers_of, program_of, function_of, class_of};
 
 use crate::machine::Machine;
-use crate::program::{CallerChecks, Class, Function};
-use crate::task::Call;
-use cx_code::Kind;
-use cx_core::{Body, Specifier};
-use cx_plain_state::{Halt, State, undefined};
+use crate::program::{Class, Function};
+use cx_plain_state::ObjectType;
+use cx_types::{Base, ValueType};
 
-/// Whether the depth of calls counts a function with this body.
-pub(crate) fn is_counted(body: &Body) -> bool
-    ensures { (n : Numbers) → result ≡ is_counted (body_of n body.now) }
-{
-    !matches!(
-        body,
-        Body::ImplicitConstructor(_) | Body::ImplicitCopyConstructor(_) | Body::ImplicitDestructor(_)
-    )
-}
-
-#[tactic(auto, unfolding(crate::specs::Seen::program_of, cx_core::specs::Outcome::gives, cx_core::specs::Outcome::ends))]
 impl<'p> Machine<'p> {
-    /// The function with a number.
-    pub(crate) fn function_at(&self, state: &State<'p>, function: u32) -> Result<&'p Function, Halt>
-        ensures { let p = self.now.program.now in Ran (λ f. function_of (numbers_of p) f.now) (function_with (program_of p) function (state_of state.now)) result (state_of state.now) }
+    /// The definition of a function.
+    pub(crate) fn function_at(&self, function: u32) -> Option<&'p Function>
+        ensures { let p = self.now.program.now in slice_get (program_of p).functions function ≡ option_map (λ f. function_of (numbers_of p) f.now) result }
     {
-        match self.program.functions.get(function as usize) {
-            Some(f) => Ok(f),
-            None => Err(undefined(Kind::Mixed)),
+        self.program.functions.get(function as usize)
+    }
+
+    /// A class.
+    pub(crate) fn class_at(&self, class: u32) -> Option<&'p Class>
+        ensures { let p = self.now.program.now in slice_get (program_of p).classes class ≡ option_map (λ c. class_of (numbers_of p) c.now) result }
+    {
+        self.program.classes.get(class as usize)
+    }
+
+    /// The type of an object.
+    pub(crate) fn object_type(&self, of: ValueType) -> ObjectType
+        ensures { type_of result ≡ object_type (numbers_of self.now.program.now) of }
+    {
+        if of.pointers != 0 {
+            return ObjectType::Pointer;
         }
-    }
-
-    /// The class with a number.
-    pub(crate) fn class_at(&self, state: &State<'p>, class: u32) -> Result<&'p Class, Halt>
-        ensures { let p = self.now.program.now in Ran (λ c. class_of (numbers_of p) c.now) (class_at (program_of p) no_calls class (state_of state.now)) result (state_of state.now) }
-    {
-        match self.program.classes.get(class as usize) {
-            Some(c) => Ok(c),
-            None => Err(undefined(Kind::Mixed)),
+        match of.base {
+            Base::Scalar(scalar) => ObjectType::Scalar(scalar),
+            Base::Class(class) => ObjectType::Class(class),
+            Base::Violation | Base::Void => ObjectType::Pointer,
         }
-    }
-
-    /// Whether the function with a number is implicit.
-    pub(crate) fn is_implicit(&self, function: u32) -> bool
-        ensures { result ≡ is_implicit_at (program_of self.now.program.now) function }
-    {
-        match self.program.functions.get(function as usize) {
-            Some(f) => !is_counted(&f.body),
-            None => false,
-        }
-    }
-
-    /// What the unit whose code evaluates a call checks of it, if the program says it.
-    fn checks_by_caller(&self, unit: u32, function: u32) -> Option<&'p CallerChecks>
-        ensures { let p = self.now.program.now in or_no_checks (program_of p) no_calls (option_map (λ c. caller_of (numbers_of p) c.now) result) ≡ checks_at (program_of p) no_calls function (slice_get (program_of p).callers unit) }
-    {
-        self.program.callers.get(unit as usize)?.get(function as usize)
-    }
-
-    /// What the caller checks before a body.
-    pub(crate) fn caller_preconditions(&self, call: &Call<'p>) -> &'p [Specifier]
-        ensures { let p = self.now.program.now in checks_of (numbers_of p) result.now ≡ (caller_checks (program_of p) no_calls (call_of call.now)).preconditions }
-    {
-        match self.checks_by_caller(call.unit, call.function) {
-            Some(checks) => &checks.preconditions,
-            None => &[],
-        }
-    }
-
-    /// What the caller checks after a body.
-    pub(crate) fn caller_postconditions(&self, call: &Call<'p>) -> &'p [Specifier]
-        ensures { let p = self.now.program.now in checks_of (numbers_of p) result.now ≡ (caller_checks (program_of p) no_calls (call_of call.now)).postconditions }
-    {
-        match self.checks_by_caller(call.unit, call.function) {
-            Some(checks) => &checks.postconditions,
-            None => &[],
-        }
-    }
-
-    /// The number of classes.
-    pub(crate) fn class_count(&self) -> u64
-        ensures { result ≡ length (program_of self.now.program.now).classes }
-    {
-        self.program.classes.len() as u64
     }
 }

@@ -1,6 +1,6 @@
 use Rattle.std.proofs.Common.{refl}
 use Rattle.cx_core.specs.Outcome.{gives}
-use Rattle.cx_mean.proofs.machine.Machine.under_both.Goals as goal
+use Rattle.cx_mean.proofs.machine.Machine.under_two.Goals as goal
 
 pub returns : goal.returns
 unfolding gives
