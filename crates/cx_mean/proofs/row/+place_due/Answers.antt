@@ -9,7 +9,7 @@ returns-then-not-has_stood-clause-value t c = λ n. rw (c.in_ok-first.ensures.ca
 
 pub returns-in_err-place_due-clause-value : goal.returns-in_err-place_due-clause-value
 returns-in_err-place_due-clause-value t c = λ n.
-    rw (c.in_ok-first.ensures.cases.0, ← c.if-is_evaluation.ensures n, ← c.if-not-has_stood.ensures n, ← c.in_err-place_due.ensures.value n) ?
+    rw (c.in_ok-first.ensures.cases.0, ← c.if-is_evaluation.ensures n, ← c.if-not-has_stood.ensures n, ← c.in_err-place_due.ensures.value n) c.from_residual-in_err-place_due.ensures
 
 pub returns-clause-value : goal.returns-clause-value
 returns-clause-value t c = λ n.
