@@ -8,7 +8,8 @@ use Rattle.cx_core.specs.Store.{Address, Value, null}
 use Rattle.cx_core.specs.Program.{Program, FieldInit, Function}
 use Rattle.cx_core.specs.Tree.{Stmts}
 use Rattle.cx_core.specs.Operators.{named}
-use Rattle.cx_core.specs.Leaving.{Call}
+use Rattle.cx_core.specs.Leaving.{Call, class_at}
+use Rattle.cx_core.specs.Statements.{this_place}
 use Rattle.cx_core.specs.Meaning.{numbered, unit_of}
 use Rattle.cx_core.specs.Block.{begin_told}
 use Rattle.cx_plain.specs.Task as task
@@ -87,3 +88,17 @@ destructor_frames level f t b a told =
     ∷ task.then_next (task.destroying_fields level t a)
     ∷ task.then_next (task.edged_checks level f.checks.postconditions)
     ∷ told
+
+-- the fields of class type are constructed under the frames of a construction
+abbrev pub default_under : Program → Level → ℕ → task.Frame → List task.Frame → Does Next
+default_under program level t constructing frames = do
+  definition ← class_at program no_calls t
+  doing (task.default_fields level definition.fields) (task.replace (task.value null) ∷ constructing ∷ frames)
+
+-- the fields are copied under the frames of a construction
+abbrev pub copy_under : Program → Level → ℕ → task.Frame → List task.Frame → Does Next
+copy_under program level t constructing frames = do
+  definition ← class_at program no_calls t
+  to ← this_place program no_calls
+  source ← parameter_place 1
+  doing (task.copying_members level definition.fields source to) (task.replace (task.value null) ∷ constructing ∷ frames)

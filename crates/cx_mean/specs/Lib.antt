@@ -4,3 +4,4 @@ pub mod Frames
 pub mod Steps
 pub mod Parts
 pub mod CallParts
+pub mod Runs

@@ -1,21 +1,22 @@
 -- Parts of the machine's steps that have functions of their own here.
-use Rattle.std.specs.Prelude.{ℕ, ◌+◌, Bool, if◌then◌else◌, List, [], ◌∷◌, Option, Some, map, pos, slice_get}
+use Rattle.std.specs.Prelude.{ℕ, ◌+◌, Bool, not, if◌then◌else◌, List, [], ◌∷◌, Option, Some, map, pos, slice_get}
 use Rattle.cx_core.specs.Tree as tree
-use Rattle.cx_core.specs.Tree.{Args, Init}
+use Rattle.cx_core.specs.Tree.{Operand, Args, Init}
 use Rattle.cx_core.specs.Program.{Program, Class}
 use Rattle.cx_core.specs.declared.number.IntegerType.{IntegerType}
 use Rattle.cx_core.specs.declared.number.BinaryOperator.{BinaryOperator}
 use Rattle.cx_core.specs.declared.number.UnaryOperator.{UnaryOperator}
 use Rattle.cx_core.specs.Store.{Address, Value, number, address, null, place_in}
-use Rattle.cx_core.specs.Outcome.{Living, whole, Exception, Does, Nothing, ◌>>=◌, ◌>>◌, gives, some, current_frame, current_living, current_temporaries, current_held, set_held, spend, spend_all, make, place_of, read_leaf, write}
-use Rattle.cx_core.specs.Operators.{constant, named, operated, unary_operated, stored, updated, step}
+use Rattle.cx_core.specs.Outcome.{Living, whole, Exception, Does, Nothing, ◌>>=◌, ◌>>◌, gives, throws, some, current_frame, current_living, current_temporaries, current_held, set_held, spend, spend_all, make, end_lifetime, place_of, read_leaf, write}
+use Rattle.cx_core.specs.Check.{truth}
+use Rattle.cx_core.specs.Operators.{constant, named, truth_value, operated, unary_operated, stored, updated, step}
 use Rattle.cx_core.specs.declared.unit.LeafKind.{LeafKind}
 use Rattle.cx_core.specs.Linked.{leaf_kind}
 use Rattle.cx_core.specs.Statements.{zero_leaf, zero_leaves, zero_object}
 use Rattle.cx_core.specs.Meaning.{held_object, object_place, result_stored}
 use Rattle.cx_plain.specs.Task as task
 use Rattle.cx_plain.specs.Task.{Level, Left, Next}
-use Rattle.cx_plain.specs.Step.{doing, left_by, no_calls, step_call}
+use Rattle.cx_plain.specs.Step.{answered, doing, giving, left_by, no_calls, step_call, valued}
 
 -- ---- expressions without parts
 
@@ -145,3 +146,31 @@ class_zeroed c a = zero_leaves a c.leaves >> spend_all c.objects
 
 abbrev pub zero_first_of : Program → Level → ℕ → Init → Address → Does Next
 zero_first_of program level c i p = zero_object program no_calls c p >> doing (task.initialise level i p) []
+
+-- ---- what operands and arguments give
+
+abbrev pub truth_tested : Value → Does Next
+truth_tested v = answered task.truth (truth v)
+
+abbrev pub decided : Level → Bool → Operand → Bool → Does Next
+decided level decides b x = spend >>
+    (if (if decides then x else not x) then giving (task.value (truth_value decides)) else doing (task.used_truth level b) (task.truth_as_value ∷ []))
+
+abbrev pub chosen : Level → (b c : Operand) → Bool → Does Next
+chosen level b c x = spend >> (if x then doing (task.used level b) [] else doing (task.used level c) [])
+
+abbrev pub call_made : Level → ℕ → List Value → Option Value → Does Next
+call_made level f vs result = do
+  frame ← current_frame
+  doing (task.calling level.implicit level.counted (record { function = f; unit = frame.unit; arguments = vs; result = result })) []
+
+abbrev pub call_made_into : Level → ℕ → List Value → ℕ → Does Next
+call_made_into level f vs n = do
+  frame ← current_frame
+  doing (task.calling level.implicit level.counted (record { function = f; unit = frame.unit; arguments = vs; result = Some (object_place n) })) (task.read_result n ∷ [])
+
+abbrev pub result_ended : ℕ → Value → Does Next
+result_ended n v = valued (end_lifetime n >> gives v)
+
+abbrev pub ended_by : ℕ → Exception → Does Next
+ended_by n e = end_lifetime n >> throws e

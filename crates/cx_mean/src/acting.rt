@@ -14,7 +14,7 @@ ghost use Rattle.cx_plain_state.specs.Seen.{address_of, binding_of, state_of};
 ghost use Rattle.cx_mean.specs.Seen.{body_of, field_inits_of, function_of, numbers_of, program_of};
 ghost use Rattle.cx_mean.specs.Tasks.{call_of, level_of};
 ghost use Rattle.cx_mean.specs.Frames.{frames_of, waiting_of};
-ghost use Rattle.cx_mean.specs.CallParts.{active_frame, constructor_frames, destructor_frames, entered, parameter_place};
+ghost use Rattle.cx_mean.specs.CallParts.{active_frame, constructor_frames, copy_under, default_under, destructor_frames, entered, parameter_place};
 ghost use Rattle.cx_mean.specs.Steps.{Steps};
 
 use crate::asked::is_counted;
@@ -130,11 +130,11 @@ impl<'p> Machine<'p> {
         ensures { let p = self.now.program.now in let n = numbers_of p in Steps p (step_acting (program_of p) (level_of level) (parts.constructor (field_inits_of n fields.now) (stmts_of n b.now)) (function_of n f.now) (call_of c.entry) (frames_of n frames.entry.items)) result state.old state.new }
     {
         let constructing = self.enter_construction(state, level);
-        let frames = self.edged(frames, f)?;
-        let frames = self.framed(frames, constructing)?;
-        let frames = self.constructor_frames(level, f, fields, b, &c, frames)?;
-        let before = CallTask::Before(level, f, site(self.alloc, &c));
-        self.under_all(state, Task::Call(before), frames)
+        let edged = self.edged(frames, f)?;
+        let outer = self.framed(edged, constructing)?;
+        let all = self.constructor_frames(level, f, fields, b, &c, outer)?;
+        let call = site(self.alloc, &c);
+        self.under_all(state, Task::Call(CallTask::Before(level, f, call)), all)
     }
 
     /// The frames of the construction of an object by an implicit constructor.
@@ -146,14 +146,33 @@ impl<'p> Machine<'p> {
         self.framed(frames, null)
     }
 
+    /// The fields of class type are constructed under the frames of a construction.
+    fn default_under(&self, state: &State<'p>, level: Level, class: u32, constructing: Waiting<'p>, frames: Vec<Waiting<'p>>) -> Result<Next<'p>, Halt>
+        ensures { let p = self.now.program.now in let n = numbers_of p in Steps p (default_under (program_of p) (level_of level) class (waiting_of n constructing.entry) (frames_of n frames.entry.items)) result state.now state.now }
+    {
+        let definition = self.class_with(state, class)?;
+        let frames = self.implicit_frames(constructing, frames)?;
+        let task = ObjectTask::DefaultFields(level, definition.definition.fields.items());
+        self.under_all(state, Task::Object(task), frames)
+    }
+
     /// An implicit constructor without parameters: the fields of class type are constructed.
     fn acting_default(&self, state: &mut State<'p>, level: Level, class: u32, frames: Vec<Waiting<'p>>) -> Result<Next<'p>, Halt>
         ensures { let p = self.now.program.now in let n = numbers_of p in (f : parts.Function) (c : CalledBy) → Steps p (step_acting (program_of p) (level_of level) (parts.implicit_constructor class) f c (frames_of n frames.entry.items)) result state.old state.new }
     {
         let constructing = self.enter_construction(state, level);
+        self.default_under(state, level, class, constructing, frames)
+    }
+
+    /// The fields are copied under the frames of a construction.
+    fn copy_under(&self, state: &State<'p>, level: Level, class: u32, constructing: Waiting<'p>, frames: Vec<Waiting<'p>>) -> Result<Next<'p>, Halt>
+        ensures { let p = self.now.program.now in let n = numbers_of p in Steps p (copy_under (program_of p) (level_of level) class (waiting_of n constructing.entry) (frames_of n frames.entry.items)) result state.now state.now }
+    {
         let definition = self.class_with(state, class)?;
+        let to = parameter_place(state, 0)?;
+        let source = parameter_place(state, 1)?;
         let frames = self.implicit_frames(constructing, frames)?;
-        let task = ObjectTask::DefaultFields(level, definition.definition.fields.items());
+        let task = ObjectTask::CopyingMembers(level, definition.definition.fields.items(), source, to);
         self.under_all(state, Task::Object(task), frames)
     }
 
@@ -162,12 +181,7 @@ impl<'p> Machine<'p> {
         ensures { let p = self.now.program.now in let n = numbers_of p in (f : parts.Function) (c : CalledBy) → Steps p (step_acting (program_of p) (level_of level) (parts.implicit_copy_constructor class) f c (frames_of n frames.entry.items)) result state.old state.new }
     {
         let constructing = self.enter_construction(state, level);
-        let definition = self.class_with(state, class)?;
-        let to = parameter_place(state, 0)?;
-        let source = parameter_place(state, 1)?;
-        let frames = self.implicit_frames(constructing, frames)?;
-        let task = ObjectTask::CopyingMembers(level, definition.definition.fields.items(), source, to);
-        self.under_all(state, Task::Object(task), frames)
+        self.copy_under(state, level, class, constructing, frames)
     }
 
     /// The frames of the parts of a destructor that follow its first checks.
@@ -198,18 +212,19 @@ impl<'p> Machine<'p> {
     }
 }
 
-/// What the parameters of a call denote, by their slots.
-fn numbered<'p>(alloc: Global, arguments: &[Value<'p>]) -> Result<Vec<Binding<'p>>, Halt>
-    ensures variables { (p : Program) → IfOk result (λ variables. map binding_of variables.items ≡ numbered p no_calls 0 (values_of arguments.now)) }
+/// What the parameters of a call denote, by their slots from this one on.
+fn numbered<'p>(alloc: Global, slot: u32, arguments: &[Value<'p>]) -> Result<Vec<Binding<'p>>, Halt>
+    ensures variables { (p : Program) → IfOk result (λ variables. map binding_of variables.items ≡ numbered p no_calls slot (values_of arguments.now)) }
     ensures want { IfErr result (λ halt. halt ≡ Want) }
 {
-    let mut variables = Vec::new(alloc);
-    for (i, value) in arguments.iter().enumerate() {
-        let Ok(slot) = u32::try_from(i) else {
-            return Err(Halt::Want);
-        };
-        variables.push(Binding { slot, value: *value })?;
-    }
+    let Some((value, rest)) = arguments.split_first() else {
+        return Ok(Vec::new(alloc));
+    };
+    let Some(next) = slot.checked_add(1) else {
+        return Err(Halt::Want);
+    };
+    let mut variables = numbered(alloc, next, rest)?;
+    variables.insert(0, Binding { slot, value: *value })?;
     Ok(variables)
 }
 
@@ -230,7 +245,7 @@ impl<'p> Machine<'p> {
         ensures want { IfErr result (λ halt. halt ≡ Want) }
     {
         let unit = unit_of(f, c);
-        let variables = numbered(self.alloc, &c.arguments)?;
+        let variables = numbered(self.alloc, 0, &c.arguments)?;
         let result = c.result;
         let outer = mem::replace(&mut state.frame, Frame { unit, variables, result });
         Ok(Waiting::Leaving(LeavingFrame::Within(outer)))

@@ -137,10 +137,10 @@ impl<'p> Machine<'p> {
     pub(crate) fn body(&self, state: &mut State<'p>, level: Level, kind: ResultKind, b: &'p [Statement]) -> Result<Next<'p>, Halt>
         ensures { let p = self.now.program.now in let n = numbers_of p in Steps p (step_task (program_of p) (tasks.body (level_of level) (result_kind_of kind) (stmts_of n b.now))) result state.old state.new }
     {
-        let statements = Box::new(self.alloc, StatementTask::Statements(level, b))?;
+        let statements = self.statement_of(StatementTask::Statements(level, b))?;
         let scope = self.enter_scope(state, level);
         let given = Waiting::Call(CallFrame::ValueGiven(kind));
-        self.under_two(state, Task::Statement(statements), scope, given)
+        self.under_two(state, statements, scope, given)
     }
 
     /// A call, or a part of one.

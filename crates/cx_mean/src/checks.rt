@@ -67,7 +67,7 @@ impl<'p> Machine<'p> {
     }
 
     /// The evaluation that is told begins, and so many follow.
-    fn begin(&self, state: &mut State<'p>, level: Level, party: Party, left: u64, check: Check<'p>, due: Vec<Due<'p>>) -> Result<Next<'p>, Halt>
+    fn begin_evaluation(&self, state: &mut State<'p>, level: Level, party: Party, left: u64, check: Check<'p>, due: Vec<Due<'p>>) -> Result<Next<'p>, Halt>
         ensures { let p = self.now.program.now in let n = numbers_of p in Steps p (begun (level_of level) party left (check_seen n check.entry) (map (due_of n) due.entry.items)) result state.old state.new }
     {
         state.spend()?;
@@ -83,7 +83,7 @@ impl<'p> Machine<'p> {
         let Some((check, due)) = go_on(e, party, due) else {
             return Err(Halt::Over(Answer::NotARun));
         };
-        self.begin(state, level, party, left, check, due)
+        self.begin_evaluation(state, level, party, left, check, due)
     }
 
     /// A row of checks is made.

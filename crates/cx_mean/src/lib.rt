@@ -4,12 +4,15 @@
 
 mod acting;
 mod asked;
+mod argument_frame;
+mod begin;
 mod call_frame;
 mod calls;
 mod checks;
 mod expression;
 mod field;
 mod frames;
+mod following_frame;
 mod handling;
 mod leaf;
 mod leaving;
@@ -21,6 +24,7 @@ mod operand_frame;
 mod operation;
 mod program;
 mod row;
+mod run;
 mod statement;
 mod step;
 mod task;
@@ -28,3 +32,4 @@ mod waiting;
 mod zero;
 
 pub use program::{CallerChecks, Class, Function, PlannedAssertion, Program};
+pub use run::{Meaning, Want};
