@@ -15,7 +15,7 @@ use Rattle.cx_core.specs.Block.{begin_told}
 use Rattle.cx_plain.specs.Task as task
 use Rattle.cx_plain.specs.Step.{doing, evaluation_of, has_stood, no_calls, site_of, step_acting}
 use Rattle.cx_core.specs.Words.{Party}
-use Rattle.cx_plain.specs.Task.{Level, Next}
+use Rattle.cx_plain.specs.Task.{Level, Next, Task}
 
 -- the place of the assertion whose evaluation is told, if each before it has stood
 abbrev pub place_due : Party → Evaluation → List task.Due → Option ℕ
@@ -102,3 +102,10 @@ copy_under program level t constructing frames = do
   to ← this_place program no_calls
   source ← parameter_place 1
   doing (task.copying_members level definition.fields source to) (task.replace (task.value null) ∷ constructing ∷ frames)
+
+-- a task is done while the result of the active call is set
+abbrev pub under_result : Task → task.Frame → Value → Does Next
+under_result t posted v = do
+  frame ← current_frame
+  set_frame (record frame { result = Some v })
+  doing t (task.within frame ∷ posted ∷ [])

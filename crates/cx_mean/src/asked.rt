@@ -1,5 +1,5 @@
 //! What calls ask of the program: the functions and classes with a number, and the checks of a caller.
-ghost use Rattle.std.specs.Prelude.{◌≡◌, length, slice_get};
+ghost use Rattle.std.specs.Prelude.{◌≡◌, ◌<◌, ◌^◌, length, slice_get};
 ghost use Rattle.std.specs.Option.{option_map};
 ghost use Rattle.cx_core.specs.Leaving.{class_at};
 ghost use Rattle.cx_core.specs.Meaning.{caller_checks, checks_at, is_implicit_at, or_no_checks};
@@ -90,7 +90,8 @@ impl<'p> Machine<'p> {
 
     /// The number of classes.
     pub(crate) fn class_count(&self) -> u64
-        ensures { result ≡ length (program_of self.now.program.now).classes }
+        ensures count { result ≡ length (program_of self.now.program.now).classes }
+        ensures small { result < 2 ^ 63 }
     {
         self.program.classes.len() as u64
     }

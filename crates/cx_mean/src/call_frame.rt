@@ -8,9 +8,9 @@ ghost use Rattle.cx_plain_state.specs.Ran.{Ran};
 ghost use Rattle.cx_core.specs.Program.{Program};
 ghost use Rattle.cx_plain_state.specs.Seen.{address_of, exception_of, state_of, value_of};
 ghost use Rattle.cx_mean.specs.Seen.{numbers_of, program_of, result_kind_of, function_of};
-ghost use Rattle.cx_mean.specs.Tasks.{level_of, call_of};
+ghost use Rattle.cx_mean.specs.Tasks.{level_of, call_of, task_of};
 ghost use Rattle.cx_mean.specs.Frames.{completion_of, given_of, call_frame_of, waiting_of};
-ghost use Rattle.cx_mean.specs.CallParts.{destruction, place_given};
+ghost use Rattle.cx_mean.specs.CallParts.{destruction, place_given, under_result};
 ghost use Rattle.cx_mean.specs.Steps.{Steps};
 
 use crate::leaf::valued;
@@ -75,6 +75,14 @@ impl<'p> Machine<'p> {
 
 #[tactic(auto, unfolding(cx_core::specs::Outcome::either, cx_core::specs::Outcome::gives, cx_core::specs::Outcome::ends, cx_core::specs::Outcome::throws))]
 impl<'p> Machine<'p> {
+    /// A task is done while the result of the active call is set.
+    fn under_result(&self, state: &mut State<'p>, task: Task<'p>, posted: Waiting<'p>, v: Value<'p>) -> Result<Next<'p>, Halt>
+        ensures { let p = self.now.program.now in let n = numbers_of p in Steps p (under_result (task_of n task.entry) (waiting_of n posted.entry) (value_of v.entry)) result state.old state.new }
+    {
+        let within = self.enter_result(state, v)?;
+        self.under_two(state, task, within, posted)
+    }
+
     /// The checks after a body that has given a value.
     pub(crate) fn postconditions(&self, state: &mut State<'p>, level: Level, kind: ResultKind, f: &'p Function, c: Call<'p>, v: Value<'p>) -> Result<Next<'p>, Halt>
         ensures { let p = self.now.program.now in let n = numbers_of p in Steps p (step_postconditions (program_of p) (level_of level) (result_kind_of kind) (function_of n f.now) (call_of c.entry) (value_of v.entry)) result state.old state.new }
@@ -85,10 +93,7 @@ impl<'p> Machine<'p> {
         let call = Call { function, unit, arguments, result: None };
         let task = Task::Call(CallTask::After(level, f, call));
         match kind {
-            ResultKind::Reference => {
-                let within = self.enter_result(state, v)?;
-                self.under_two(state, task, within, posted)
-            }
+            ResultKind::Reference => self.under_result(state, task, posted, v),
             _ => self.under(state, task, posted),
         }
     }
