@@ -1,5 +1,6 @@
 pub mod Pushed
 pub mod Passes
+pub mod Rows
 pub mod Opened
 pub mod Lookups
 pub mod OpenedStatement

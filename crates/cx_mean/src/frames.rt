@@ -1,5 +1,5 @@
 //! Frames that a task is done under.
-ghost use Rattle.std.specs.Prelude.{◌≡◌, [], ◌∷◌, IfOk};
+ghost use Rattle.std.specs.Prelude.{◌≡◌, ◌∷◌, IfOk};
 ghost use Rattle.cx_plain.specs.Step.{doing};
 ghost use Rattle.cx_plain.specs.Task as tasks;
 ghost use Rattle.cx_plain_state.specs.Ran.{Ran};
@@ -57,12 +57,5 @@ impl<'p> Machine<'p> {
         ensures { let n = numbers_of self.now.program.now in Ran (next_of n) (doing (task_of n task.entry) (frames_of n frames.entry.items) (state_of state.now)) result (state_of state.now) }
     {
         Ok(Next::Go(task, frames))
-    }
-
-    /// A task is done under two more frames.
-    pub(crate) fn under_both(&self, state: &State<'p>, task: Task<'p>, outer: Waiting<'p>, inner: Waiting<'p>) -> Result<Next<'p>, Halt>
-        ensures { let n = numbers_of self.now.program.now in Ran (next_of n) (doing (task_of n task.entry) (waiting_of n inner.entry ∷ waiting_of n outer.entry ∷ []) (state_of state.now)) result (state_of state.now) }
-    {
-        Ok(Next::Go(task, vec![in self.alloc; outer, inner]?))
     }
 }

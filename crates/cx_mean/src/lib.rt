@@ -2,7 +2,9 @@
 //! for tests alone.
 #![tactic(auto)]
 
+mod acting;
 mod argument_frame;
+mod asked;
 mod begin;
 mod call_frame;
 mod calls;
@@ -16,14 +18,15 @@ mod full_expression;
 mod handling;
 mod leaf;
 mod leaving;
-mod loops;
 mod lookup;
+mod loops;
 mod machine;
 mod object;
 mod operand;
 mod operand_frame;
 mod operation;
 mod program;
+mod row;
 mod run;
 mod statement;
 mod step;
