@@ -1,0 +1,257 @@
+use crate::build::{Build, CHAR, INT, Made, POINTER_TO_INT};
+use cx_core::{
+    Argument, BinaryOperator, Constant, Expression, Initializer, IntegerType, Operand, Query,
+};
+use cx_outside::Text;
+use cx_types::ValueType;
+
+/// Expressions.
+impl Build {
+    /// A variable or parameter by its slot.
+    pub fn variable(self, slot: u32) -> Made<Expression> {
+        Ok(Expression::Variable(slot))
+    }
+
+    pub fn global(self, number: u32) -> Made<Expression> {
+        Ok(Expression::Global(number))
+    }
+
+    pub fn result_name(self) -> Made<Expression> {
+        Ok(Expression::ResultName)
+    }
+
+    pub fn exception_object(self) -> Made<Expression> {
+        Ok(Expression::ExceptionObject)
+    }
+
+    pub fn literal(self, number: i128) -> Made<Expression> {
+        Ok(Expression::Literal(Constant::Number(number)))
+    }
+
+    pub fn binary(
+        self,
+        operator: BinaryOperator,
+        of: IntegerType,
+        left: Made<Operand>,
+        right: Made<Operand>,
+    ) -> Made<Expression> {
+        Ok(Expression::Binary(
+            operator,
+            of,
+            self.boxed(left)?,
+            self.boxed(right)?,
+        ))
+    }
+
+    pub fn assign(self, place: Made<Expression>, value: Made<Operand>) -> Made<Expression> {
+        Ok(Expression::Assign(self.boxed(place)?, self.boxed(value)?))
+    }
+
+    /// `+=` and the like, of two operands of type `int`.
+    pub fn assign_by(
+        self,
+        operator: BinaryOperator,
+        place: Made<Expression>,
+        value: Made<Operand>,
+    ) -> Made<Expression> {
+        Ok(Expression::CompoundAssign(
+            operator,
+            IntegerType::Int,
+            IntegerType::Int,
+            self.boxed(place)?,
+            self.boxed(value)?,
+        ))
+    }
+
+    /// `++` before an operand of type `int`.
+    pub fn increment(self, place: Made<Expression>) -> Made<Expression> {
+        Ok(Expression::PrefixStep(
+            BinaryOperator::Add,
+            IntegerType::Int,
+            self.boxed(place)?,
+        ))
+    }
+
+    pub fn indirection(self, pointer: Made<Operand>) -> Made<Expression> {
+        Ok(Expression::Indirection(self.boxed(pointer)?))
+    }
+
+    /// The field at this leaf, or at leaf 0 the object of a member call.
+    pub fn member(self, leaf: u32, object: Made<Expression>) -> Made<Expression> {
+        Ok(Expression::Member(leaf, self.boxed(object)?))
+    }
+
+    /// A field that is named alone.
+    pub fn own(self, leaf: u32) -> Made<Expression> {
+        self.member(leaf, self.indirection(self.as_is(Ok(Expression::This))))
+    }
+
+    pub fn call(self, function: u32, arguments: Made<Vec<Argument>>) -> Made<Expression> {
+        Ok(Expression::Call(function, arguments?))
+    }
+
+    pub fn temporary(self, of: ValueType, init: Made<Initializer>) -> Made<Expression> {
+        Ok(Expression::Temporary(of, self.boxed(init)?))
+    }
+
+    /// `int(e)` of an enumerator.
+    pub fn int_of(self, of: Made<Expression>) -> Made<Expression> {
+        let operand = Operand {
+            read: None,
+            to: Some(IntegerType::Int),
+            of: of?,
+        };
+        Ok(Expression::Cast(self.boxed(Ok(operand))?))
+    }
+
+    pub fn getchar(self) -> Made<Expression> {
+        Ok(Expression::Getchar)
+    }
+
+    pub fn putchar(self, byte: Made<Operand>) -> Made<Expression> {
+        Ok(Expression::Putchar(self.boxed(byte)?))
+    }
+
+    pub fn puts(self, text: &[u8]) -> Made<Expression> {
+        Ok(Expression::Puts(Text::copy_of(self.alloc, text)?))
+    }
+
+    pub fn puts_comment(self, violation: Made<Expression>) -> Made<Expression> {
+        Ok(Expression::PutsComment(self.boxed(violation)?))
+    }
+
+    pub fn query(self, query: Query, violation: Made<Expression>) -> Made<Expression> {
+        Ok(Expression::Query(query, self.boxed(violation)?))
+    }
+}
+
+/// Operands.
+impl Build {
+    /// Neither read nor converted.
+    pub fn as_is(self, of: Made<Expression>) -> Made<Operand> {
+        Ok(Operand {
+            read: None,
+            to: None,
+            of: of?,
+        })
+    }
+
+    /// An object of this type is read.
+    pub fn read(self, of: ValueType, place: Made<Expression>) -> Made<Operand> {
+        Ok(Operand {
+            read: Some(of),
+            to: None,
+            of: place?,
+        })
+    }
+
+    /// It is converted, and read before where it is an object of a type.
+    pub fn converted(
+        self,
+        read: Option<ValueType>,
+        to: IntegerType,
+        of: Made<Expression>,
+    ) -> Made<Operand> {
+        Ok(Operand {
+            read,
+            to: Some(to),
+            of: of?,
+        })
+    }
+
+    pub fn read_int(self, place: Made<Expression>) -> Made<Operand> {
+        self.read(INT, place)
+    }
+
+    /// A `char` that is promoted.
+    pub fn read_char(self, place: Made<Expression>) -> Made<Operand> {
+        self.converted(Some(CHAR), IntegerType::Int, place)
+    }
+
+    pub fn read_pointer(self, place: Made<Expression>) -> Made<Operand> {
+        self.read(POINTER_TO_INT, place)
+    }
+
+    /// The `int` in this slot.
+    pub fn value_in(self, slot: u32) -> Made<Operand> {
+        self.read_int(self.variable(slot))
+    }
+
+    pub fn number(self, number: i128) -> Made<Operand> {
+        self.as_is(self.literal(number))
+    }
+
+    /// A character literal that is promoted.
+    pub fn character(self, byte: u8) -> Made<Operand> {
+        self.converted(None, IntegerType::Int, self.literal(i128::from(byte)))
+    }
+
+    /// Of two operands of type `int`.
+    pub fn ints(
+        self,
+        operator: BinaryOperator,
+        left: Made<Operand>,
+        right: Made<Operand>,
+    ) -> Made<Operand> {
+        self.as_is(self.binary(operator, IntegerType::Int, left, right))
+    }
+
+    /// The value of a call.
+    pub fn called(self, function: u32, arguments: Made<Vec<Argument>>) -> Made<Operand> {
+        self.as_is(self.call(function, arguments))
+    }
+}
+
+/// Initialisers and arguments.
+impl Build {
+    pub fn value(self, of: Made<Operand>) -> Made<Initializer> {
+        Ok(Initializer::Value(of?))
+    }
+
+    pub fn construct(
+        self,
+        constructor: u32,
+        arguments: Made<Vec<Argument>>,
+    ) -> Made<Initializer> {
+        Ok(Initializer::Construct(constructor, arguments?))
+    }
+
+    /// By a constructor without arguments.
+    pub fn construct_plainly(self, constructor: u32) -> Made<Initializer> {
+        self.construct(constructor, self.list([]))
+    }
+
+    /// By a copy constructor, from this object.
+    pub fn copy(self, constructor: u32, from: Made<Expression>) -> Made<Initializer> {
+        self.construct(constructor, self.list([self.by_reference(from)]))
+    }
+
+    pub fn zero_first(self, class: u32, init: Made<Initializer>) -> Made<Initializer> {
+        Ok(Initializer::ZeroFirst(class, self.boxed(init)?))
+    }
+
+    pub fn result_of(self, function: u32, arguments: Made<Vec<Argument>>) -> Made<Initializer> {
+        Ok(Initializer::ResultOf(function, arguments?))
+    }
+
+    pub fn by_reference(self, place: Made<Expression>) -> Made<Argument> {
+        Ok(Argument::ByReference(place?))
+    }
+
+    pub fn by_value(self, of: ValueType, init: Made<Initializer>) -> Made<Argument> {
+        Ok(Argument::ByValue(of, init?))
+    }
+
+    pub fn int_argument(self, value: Made<Operand>) -> Made<Argument> {
+        self.by_value(INT, self.value(value))
+    }
+
+    pub fn char_argument(self, byte: u8) -> Made<Argument> {
+        self.by_value(CHAR, self.value(self.number(i128::from(byte))))
+    }
+
+    /// The variable in this slot, as the object of a member call.
+    pub fn on(self, slot: u32) -> Made<Argument> {
+        self.by_reference(self.member(0, self.variable(slot)))
+    }
+}
