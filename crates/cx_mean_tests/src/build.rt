@@ -4,10 +4,10 @@ mod functions;
 mod programs;
 mod statements;
 
-pub use programs::{Stated, Under};
-
+pub use classes::Makers;
 use cx_outside::NoMemory;
 use cx_types::{Base, Scalar, ValueType};
+pub use programs::{Stated, Under};
 use std::alloc::Global;
 
 /// What the builder made, or want of memory. Each part of a tree takes its own parts so, and a tree is one expression.
@@ -33,8 +33,18 @@ impl Build {
         }
         Ok(list)
     }
+
+    /// A list, and then another.
+    pub fn joined<T: Drop>(self, list: Made<Vec<T>>, more: Made<Vec<T>>) -> Made<Vec<T>> {
+        let mut list = list?;
+        for item in more? {
+            list.push(item)?;
+        }
+        Ok(list)
+    }
 }
 
+/// `int`.
 pub const INT: ValueType = ValueType {
     base: Base::Scalar(Scalar::Int),
     constant: false,
@@ -43,6 +53,7 @@ pub const INT: ValueType = ValueType {
     reference: false,
 };
 
+/// `char`.
 pub const CHAR: ValueType = ValueType {
     base: Base::Scalar(Scalar::Char),
     constant: false,
@@ -51,6 +62,7 @@ pub const CHAR: ValueType = ValueType {
     reference: false,
 };
 
+/// `unsigned`.
 pub const UNSIGNED: ValueType = ValueType {
     base: Base::Scalar(Scalar::Unsigned),
     constant: false,
@@ -59,6 +71,7 @@ pub const UNSIGNED: ValueType = ValueType {
     reference: false,
 };
 
+/// `int*`.
 pub const POINTER_TO_INT: ValueType = ValueType {
     base: Base::Scalar(Scalar::Int),
     constant: false,

@@ -1,3 +1,5 @@
+ghost use Rattle.std.specs.Prelude.{◌<◌};
+
 use crate::build::{Build, Made};
 use cx_core::{ClassDefinition, Field, LeafKind};
 use cx_mean::Class;
@@ -10,6 +12,30 @@ pub struct Makers {
     pub default_constructor: Option<u32>,
     pub copy_constructor: u32,
     pub destructor: u32,
+}
+
+impl Makers {
+    /// A constructor without parameters, a copy constructor and a destructor, in this order from a function on.
+    pub fn from_number(first: u32) -> Self
+        requires { first < 100 }
+    {
+        Makers {
+            default_constructor: Some(first),
+            copy_constructor: first + 1,
+            destructor: first + 2,
+        }
+    }
+
+    /// The same, where the constructor has parameters.
+    pub fn with_parameters(first: u32) -> Self
+        requires { first < 100 }
+    {
+        Makers {
+            default_constructor: None,
+            copy_constructor: first + 1,
+            destructor: first + 2,
+        }
+    }
 }
 
 /// Classes.
@@ -46,7 +72,13 @@ impl Build {
 
     /// With one field, of this scalar type.
     pub fn class_of_one(self, name: &[u8], of: ValueType, makers: Makers) -> Made<Class> {
-        self.class(name, &[Field { leaf: 0, of }], &[LeafKind::Number], 1, makers)
+        self.class(
+            name,
+            &[Field { leaf: 0, of }],
+            &[LeafKind::Number],
+            1,
+            makers,
+        )
     }
 
     /// Without fields.

@@ -12,22 +12,27 @@ impl Build {
         Ok(Expression::Variable(slot))
     }
 
+    /// A global by its number.
     pub fn global(self, number: u32) -> Made<Expression> {
         Ok(Expression::Global(number))
     }
 
+    /// The result name of a postcondition.
     pub fn result_name(self) -> Made<Expression> {
         Ok(Expression::ResultName)
     }
 
+    /// What a catch parameter is initialised from.
     pub fn exception_object(self) -> Made<Expression> {
         Ok(Expression::ExceptionObject)
     }
 
+    /// An integer literal or an enumerator.
     pub fn literal(self, number: i128) -> Made<Expression> {
         Ok(Expression::Literal(Constant::Number(number)))
     }
 
+    /// An operator with two operands, computed in this type.
     pub fn binary(
         self,
         operator: BinaryOperator,
@@ -35,14 +40,10 @@ impl Build {
         left: Made<Operand>,
         right: Made<Operand>,
     ) -> Made<Expression> {
-        Ok(Expression::Binary(
-            operator,
-            of,
-            self.boxed(left)?,
-            self.boxed(right)?,
-        ))
+        Ok(Expression::Binary(operator, of, self.boxed(left)?, self.boxed(right)?))
     }
 
+    /// `=`, whose right side is evaluated first.
     pub fn assign(self, place: Made<Expression>, value: Made<Operand>) -> Made<Expression> {
         Ok(Expression::Assign(self.boxed(place)?, self.boxed(value)?))
     }
@@ -65,13 +66,10 @@ impl Build {
 
     /// `++` before an operand of type `int`.
     pub fn increment(self, place: Made<Expression>) -> Made<Expression> {
-        Ok(Expression::PrefixStep(
-            BinaryOperator::Add,
-            IntegerType::Int,
-            self.boxed(place)?,
-        ))
+        Ok(Expression::PrefixStep(BinaryOperator::Add, IntegerType::Int, self.boxed(place)?))
     }
 
+    /// `*` before a pointer.
     pub fn indirection(self, pointer: Made<Operand>) -> Made<Expression> {
         Ok(Expression::Indirection(self.boxed(pointer)?))
     }
@@ -86,10 +84,12 @@ impl Build {
         self.member(leaf, self.indirection(self.as_is(Ok(Expression::This))))
     }
 
+    /// A call of a function by its number.
     pub fn call(self, function: u32, arguments: Made<Vec<Argument>>) -> Made<Expression> {
         Ok(Expression::Call(function, arguments?))
     }
 
+    /// A temporary of class type.
     pub fn temporary(self, of: ValueType, init: Made<Initializer>) -> Made<Expression> {
         Ok(Expression::Temporary(of, self.boxed(init)?))
     }
@@ -104,22 +104,27 @@ impl Build {
         Ok(Expression::Cast(self.boxed(Ok(operand))?))
     }
 
+    /// `getchar()`.
     pub fn getchar(self) -> Made<Expression> {
         Ok(Expression::Getchar)
     }
 
+    /// `putchar` of an `int`.
     pub fn putchar(self, byte: Made<Operand>) -> Made<Expression> {
         Ok(Expression::Putchar(self.boxed(byte)?))
     }
 
+    /// `puts` of a text literal.
     pub fn puts(self, text: &[u8]) -> Made<Expression> {
         Ok(Expression::Puts(Text::copy_of(self.alloc, text)?))
     }
 
+    /// `puts(v.comment())`, in a violation handler.
     pub fn puts_comment(self, violation: Made<Expression>) -> Made<Expression> {
         Ok(Expression::PutsComment(self.boxed(violation)?))
     }
 
+    /// What else a violation handler asks of its violation.
     pub fn query(self, query: Query, violation: Made<Expression>) -> Made<Expression> {
         Ok(Expression::Query(query, self.boxed(violation)?))
     }
@@ -159,6 +164,7 @@ impl Build {
         })
     }
 
+    /// An `int` is read.
     pub fn read_int(self, place: Made<Expression>) -> Made<Operand> {
         self.read(INT, place)
     }
@@ -168,6 +174,7 @@ impl Build {
         self.converted(Some(CHAR), IntegerType::Int, place)
     }
 
+    /// A pointer to `int` is read.
     pub fn read_pointer(self, place: Made<Expression>) -> Made<Operand> {
         self.read(POINTER_TO_INT, place)
     }
@@ -177,6 +184,7 @@ impl Build {
         self.read_int(self.variable(slot))
     }
 
+    /// A literal that needs no conversion.
     pub fn number(self, number: i128) -> Made<Operand> {
         self.as_is(self.literal(number))
     }
@@ -204,15 +212,13 @@ impl Build {
 
 /// Initialisers and arguments.
 impl Build {
+    /// A scalar is initialised by a value.
     pub fn value(self, of: Made<Operand>) -> Made<Initializer> {
         Ok(Initializer::Value(of?))
     }
 
-    pub fn construct(
-        self,
-        constructor: u32,
-        arguments: Made<Vec<Argument>>,
-    ) -> Made<Initializer> {
+    /// By a constructor, implicit or not.
+    pub fn construct(self, constructor: u32, arguments: Made<Vec<Argument>>) -> Made<Initializer> {
         Ok(Initializer::Construct(constructor, arguments?))
     }
 
@@ -226,26 +232,32 @@ impl Build {
         self.construct(constructor, self.list([self.by_reference(from)]))
     }
 
+    /// An object of this class is zeroed first.
     pub fn zero_first(self, class: u32, init: Made<Initializer>) -> Made<Initializer> {
         Ok(Initializer::ZeroFirst(class, self.boxed(init)?))
     }
 
+    /// The object is the result of a call.
     pub fn result_of(self, function: u32, arguments: Made<Vec<Argument>>) -> Made<Initializer> {
         Ok(Initializer::ResultOf(function, arguments?))
     }
 
+    /// Bound to a reference, or the object of a member call.
     pub fn by_reference(self, place: Made<Expression>) -> Made<Argument> {
         Ok(Argument::ByReference(place?))
     }
 
+    /// The initialiser of a parameter of this type.
     pub fn by_value(self, of: ValueType, init: Made<Initializer>) -> Made<Argument> {
         Ok(Argument::ByValue(of, init?))
     }
 
+    /// The initialiser of a parameter of type `int`.
     pub fn int_argument(self, value: Made<Operand>) -> Made<Argument> {
         self.by_value(INT, self.value(value))
     }
 
+    /// A character literal for a parameter of type `char`.
     pub fn char_argument(self, byte: u8) -> Made<Argument> {
         self.by_value(CHAR, self.value(self.number(i128::from(byte))))
     }

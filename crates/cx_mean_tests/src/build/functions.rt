@@ -5,6 +5,7 @@ use cx_types::ValueType;
 
 /// Functions of the first unit, without contracts.
 impl Build {
+    /// A function by its body.
     pub fn with_body(self, gives: ResultKind, body: Made<Body>) -> Made<Function> {
         Ok(Function {
             definer: 0,
@@ -16,6 +17,7 @@ impl Build {
         })
     }
 
+    /// A function that is no member, or a member function.
     pub fn function(self, gives: ResultKind, body: Made<Vec<Statement>>) -> Made<Function> {
         self.with_body(gives, self.plain(body))
     }
@@ -24,6 +26,7 @@ impl Build {
         Ok(Body::Function(body?))
     }
 
+    /// `main`.
     pub fn main(self, body: Made<Vec<Statement>>) -> Made<Function> {
         self.function(ResultKind::ExitStatus, body)
     }
@@ -34,6 +37,7 @@ impl Build {
         self.with_body(ResultKind::Void, Ok(body))
     }
 
+    /// A constructor by what it initialises fields with, in their order, and its body.
     pub fn constructor(
         self,
         fields: Made<Vec<FieldInitializer>>,
@@ -43,24 +47,34 @@ impl Build {
         self.with_body(ResultKind::Void, Ok(body))
     }
 
+    /// A destructor of this class.
     pub fn destructor(self, class: u32, body: Made<Vec<Statement>>) -> Made<Function> {
         let body = Body::Destructor(class, body?);
         self.with_body(ResultKind::Void, Ok(body))
     }
 
+    /// The implicit constructor of this class.
     pub fn implicit_constructor(self, class: u32) -> Made<Function> {
         self.with_body(ResultKind::Void, Ok(Body::ImplicitConstructor(class)))
     }
 
+    /// The implicit copy constructor of this class.
     pub fn implicit_copy(self, class: u32) -> Made<Function> {
         self.with_body(ResultKind::Void, Ok(Body::ImplicitCopyConstructor(class)))
     }
 
+    /// The implicit destructor of this class.
     pub fn implicit_destructor(self, class: u32) -> Made<Function> {
         self.with_body(ResultKind::Void, Ok(Body::ImplicitDestructor(class)))
     }
 
-    pub fn field(self, leaf: u32, of: ValueType, init: Made<Initializer>) -> Made<FieldInitializer> {
+    /// The initialiser of the field that begins at this leaf.
+    pub fn field(
+        self,
+        leaf: u32,
+        of: ValueType,
+        init: Made<Initializer>,
+    ) -> Made<FieldInitializer> {
         Ok(FieldInitializer {
             leaf,
             of,
@@ -68,6 +82,7 @@ impl Build {
         })
     }
 
+    /// The same, of type `int`.
     pub fn int_field(self, leaf: u32, value: Made<Operand>) -> Made<FieldInitializer> {
         self.field(leaf, INT, self.value(value))
     }
@@ -82,6 +97,7 @@ impl Build {
         Ok(function)
     }
 
+    /// It is `noexcept`.
     pub fn noexcept(self, function: Made<Function>) -> Made<Function> {
         let mut function = function?;
         function.noexcept = true;
@@ -96,13 +112,23 @@ impl Build {
         })
     }
 
-    pub fn before(self, preconditions: Made<Vec<Specifier>>, function: Made<Function>) -> Made<Function> {
+    /// With these preconditions, which its unit checks as Definer.
+    pub fn before(
+        self,
+        preconditions: Made<Vec<Specifier>>,
+        function: Made<Function>,
+    ) -> Made<Function> {
         let mut function = function?;
         function.preconditions = preconditions?;
         Ok(function)
     }
 
-    pub fn after(self, postconditions: Made<Vec<Specifier>>, function: Made<Function>) -> Made<Function> {
+    /// With these postconditions, which its unit checks as Definer.
+    pub fn after(
+        self,
+        postconditions: Made<Vec<Specifier>>,
+        function: Made<Function>,
+    ) -> Made<Function> {
         let mut function = function?;
         function.postconditions = postconditions?;
         Ok(function)

@@ -34,6 +34,7 @@ impl Build {
         })
     }
 
+    /// With these classes.
     pub fn with_classes(self, classes: Made<Vec<Class>>, program: Made<Program>) -> Made<Program> {
         let mut program = program?;
         program.classes = classes?;
@@ -97,7 +98,11 @@ impl Build {
     }
 
     /// With what the first unit checks as Caller, by function.
-    pub fn with_caller(self, checks: Made<Vec<CallerChecks>>, program: Made<Program>) -> Made<Program> {
+    pub fn with_caller(
+        self,
+        checks: Made<Vec<CallerChecks>>,
+        program: Made<Program>,
+    ) -> Made<Program> {
         let mut program = program?;
         program.callers.push(checks?)?;
         Ok(program)

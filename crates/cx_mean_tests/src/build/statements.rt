@@ -7,6 +7,7 @@ const UNNAMED: u32 = 9;
 
 /// Statements.
 impl Build {
+    /// `;`.
     pub fn empty(self) -> Made<Statement> {
         Ok(Statement::Empty)
     }
@@ -21,15 +22,12 @@ impl Build {
         self.does(self.putchar(self.character(byte)))
     }
 
-    pub fn declare(
-        self,
-        slot: u32,
-        of: ValueType,
-        init: Made<Initializer>,
-    ) -> Made<Statement> {
+    /// A variable in this slot.
+    pub fn declare(self, slot: u32, of: ValueType, init: Made<Initializer>) -> Made<Statement> {
         Ok(Statement::Variable(slot, of, init?))
     }
 
+    /// A variable of type `int` in this slot.
     pub fn declare_int(self, slot: u32, value: Made<Operand>) -> Made<Statement> {
         self.declare(slot, INT, self.value(value))
     }
@@ -39,31 +37,32 @@ impl Build {
         self.declare(slot, class(of), self.construct_plainly(constructor))
     }
 
+    /// The `int` in this slot is assigned to.
     pub fn set_int(self, slot: u32, value: Made<Operand>) -> Made<Statement> {
         self.does(self.assign(self.variable(slot), value))
     }
 
+    /// A block.
     pub fn block(self, statements: Made<Vec<Statement>>) -> Made<Statement> {
         Ok(Statement::Block(statements?))
     }
 
     /// `if` without `else`.
     pub fn if_so(self, condition: Made<Operand>, then: Made<Statement>) -> Made<Statement> {
-        Ok(Statement::If(
-            condition?,
-            self.boxed(then)?,
-            self.boxed(self.empty())?,
-        ))
+        Ok(Statement::If(condition?, self.boxed(then)?, self.boxed(self.empty())?))
     }
 
+    /// `while`.
     pub fn while_so(self, condition: Made<Operand>, body: Made<Statement>) -> Made<Statement> {
         Ok(Statement::While(condition?, self.boxed(body)?))
     }
 
+    /// `return` of a scalar.
     pub fn returns(self, value: Made<Operand>) -> Made<Statement> {
         Ok(Statement::ReturnValue(value?))
     }
 
+    /// `return` of a class object.
     pub fn returns_object(self, init: Made<Initializer>) -> Made<Statement> {
         Ok(Statement::ReturnObject(init?))
     }
@@ -73,18 +72,22 @@ impl Build {
         Ok(Statement::ContractAssert(assertion, predicate?))
     }
 
+    /// `throw` of an object of this type.
     pub fn throws(self, of: ValueType, init: Made<Initializer>) -> Made<Statement> {
         Ok(Statement::Throw(of, init?))
     }
 
+    /// `throw` of an `int`.
     pub fn throws_int(self, number: i128) -> Made<Statement> {
         self.throws(INT, self.value(self.number(number)))
     }
 
+    /// `throw;`.
     pub fn rethrows(self) -> Made<Statement> {
         Ok(Statement::Rethrow)
     }
 
+    /// `try` with its handlers.
     pub fn tries(
         self,
         body: Made<Vec<Statement>>,

@@ -1,4 +1,5 @@
 use crate::build::{Build, Made, POINTER_TO_INT, Stated, Under};
+use crate::programs::Takes;
 use cx_code::{AssertionKind, Semantic};
 use cx_core::{BinaryOperator, Operand, ResultKind, Specifier};
 use cx_mean::Program;
@@ -21,7 +22,7 @@ pub fn stepping(b: Build) -> Made<Program> {
         b.returns(b.called(1, arguments)),
     ]));
     let referred = b.indirection(b.read_pointer(b.variable(0)));
-    let stepped = b.as_is(b.increment(referred));
+    let stepped = b.read_int(b.increment(referred));
     let is_positive = b.ints(BinaryOperator::Greater, stepped, b.number(0));
     let value = b.read_int(b.indirection(b.read_pointer(b.variable(0))));
     let f = b.function(ResultKind::ScalarValue, b.list([b.returns(value)]));
@@ -85,10 +86,28 @@ pub fn checked_by_both(b: Build) -> Made<Program> {
     )
 }
 
-/// `h.h` is `int f(int x) pre(x > 0) pre(x > 1);`, the call is `f(2)`. How often, and under which semantic, the first
-/// unit evaluates each of the two as Caller, and how often the second unit evaluates both as Definer.
-fn called_with_two(b: Build, caller: [Under; 2], times: u16) -> Made<Program> {
-    let [first, second] = caller;
+/// What the first unit evaluates as Caller of the two assertions, and how often the second unit evaluates each as Definer.
+fn plan(takes: Takes) -> ([Under; 2], u16) {
+    match takes {
+        Takes::CallerPasses => {
+            let first = Under(IS_POSITIVE, Semantic::Ignore, 0);
+            ([first, Under(IS_ABOVE_ONE, Semantic::Enforce, 1)], 1)
+        }
+        Takes::DefinerRepeats => {
+            let first = Under(IS_POSITIVE, Semantic::Ignore, 0);
+            ([first, Under(IS_ABOVE_ONE, Semantic::Ignore, 0)], 2)
+        }
+        Takes::BothEvaluate => {
+            let first = Under(IS_POSITIVE, Semantic::Observe, 1);
+            ([first, Under(IS_ABOVE_ONE, Semantic::Observe, 1)], 1)
+        }
+    }
+}
+
+/// `h.h` is `int f(int x) pre(x > 0) pre(x > 1);`. The first unit includes it and has `int main(){ return f(2); }`; the
+/// second has `int f(int x) { return 5; }`.
+pub fn called_with_two(b: Build, takes: Takes) -> Made<Program> {
+    let ([first, second], times) = plan(takes);
     let caller = b.list([
         b.specifier(0, is_above(b, 0)),
         b.specifier(1, is_above(b, 1)),
@@ -106,33 +125,6 @@ fn called_with_two(b: Build, caller: [Under; 2], times: u16) -> Made<Program> {
         ],
         calls_over_units(b, 2, caller, definer),
     )
-}
-
-/// The Caller ignores the first assertion and enforces the second.
-pub fn ignored_by_the_caller(b: Build) -> Made<Program> {
-    let caller = [
-        Under(IS_POSITIVE, Semantic::Ignore, 0),
-        Under(IS_ABOVE_ONE, Semantic::Enforce, 1),
-    ];
-    called_with_two(b, caller, 1)
-}
-
-/// The Caller takes no part, and the Definer repeats each evaluation once.
-pub fn repeated_by_the_definer(b: Build) -> Made<Program> {
-    let caller = [
-        Under(IS_POSITIVE, Semantic::Ignore, 0),
-        Under(IS_ABOVE_ONE, Semantic::Ignore, 0),
-    ];
-    called_with_two(b, caller, 2)
-}
-
-/// Each party evaluates each assertion once.
-pub fn evaluated_by_both(b: Build) -> Made<Program> {
-    let caller = [
-        Under(IS_POSITIVE, Semantic::Observe, 1),
-        Under(IS_ABOVE_ONE, Semantic::Observe, 1),
-    ];
-    called_with_two(b, caller, 1)
 }
 
 const IS_MORE: Stated = Stated {
@@ -153,10 +145,7 @@ pub fn result_is_compared(b: Build) -> Made<Program> {
         b.read_int(b.result_name()),
         b.value_in(0),
     );
-    let f = b.function(
-        ResultKind::ScalarObject,
-        b.list([b.returns(b.value_in(0))]),
-    );
+    let f = b.function(ResultKind::ScalarObject, b.list([b.returns(b.value_in(0))]));
     let f = b.after(b.list([b.specifier(0, is_more)]), f);
     b.with_assertions(
         &[Under(IS_MORE, Semantic::Enforce, 1)],

@@ -4,11 +4,7 @@ use cx_mean::Program;
 
 /// `int main(){ int n = 0; while (getchar() != -1) n = n + 1; return n; }`
 pub fn counting_bytes(b: Build) -> Made<Program> {
-    let is_byte = b.ints(
-        BinaryOperator::NotEqual,
-        b.as_is(b.getchar()),
-        b.number(-1),
-    );
+    let is_byte = b.ints(BinaryOperator::NotEqual, b.as_is(b.getchar()), b.number(-1));
     let next = b.ints(BinaryOperator::Add, b.value_in(0), b.number(1));
     b.program(b.list([b.main(b.list([
         b.declare_int(0, b.number(0)),
