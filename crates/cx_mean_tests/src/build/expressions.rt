@@ -1,6 +1,7 @@
 use crate::build::{Build, CHAR, INT, Made, POINTER_TO_INT};
 use cx_core::{
     Argument, BinaryOperator, Constant, Expression, Initializer, IntegerType, Operand, Query,
+    UnaryOperator,
 };
 use cx_outside::Text;
 use cx_types::ValueType;
@@ -30,6 +31,11 @@ impl Build {
     /// An integer literal or an enumerator.
     pub fn literal(self, number: i128) -> Made<Expression> {
         Ok(Expression::Literal(Constant::Number(number)))
+    }
+
+    /// `nullptr`.
+    pub fn null(self) -> Made<Operand> {
+        self.as_is(Ok(Expression::Literal(Constant::Nullptr)))
     }
 
     /// An operator with two operands, computed in this type.
@@ -62,6 +68,42 @@ impl Build {
             self.boxed(place)?,
             self.boxed(value)?,
         ))
+    }
+
+    /// An operator with one operand of type `int`.
+    pub fn unary(self, operator: UnaryOperator, operand: Made<Operand>) -> Made<Expression> {
+        Ok(Expression::Unary(operator, IntegerType::Int, self.boxed(operand)?))
+    }
+
+    /// `&&`.
+    pub fn and(self, left: Made<Operand>, right: Made<Operand>) -> Made<Operand> {
+        let both = Expression::LogicalAnd(self.boxed(left)?, self.boxed(right)?);
+        self.as_is(Ok(both))
+    }
+
+    /// `||`.
+    pub fn or(self, left: Made<Operand>, right: Made<Operand>) -> Made<Operand> {
+        let either = Expression::LogicalOr(self.boxed(left)?, self.boxed(right)?);
+        self.as_is(Ok(either))
+    }
+
+    /// `?:`.
+    pub fn conditional(
+        self,
+        condition: Made<Operand>,
+        first: Made<Operand>,
+        second: Made<Operand>,
+    ) -> Made<Expression> {
+        Ok(Expression::Conditional(
+            self.boxed(condition)?,
+            self.boxed(first)?,
+            self.boxed(second)?,
+        ))
+    }
+
+    /// `++` after an operand of type `int`.
+    pub fn increment_after(self, place: Made<Expression>) -> Made<Expression> {
+        Ok(Expression::PostfixStep(BinaryOperator::Add, IntegerType::Int, self.boxed(place)?))
     }
 
     /// `++` before an operand of type `int`.

@@ -37,6 +37,11 @@ impl Build {
         self.declare(slot, class(of), self.construct_plainly(constructor))
     }
 
+    /// A reference in this slot.
+    pub fn declare_reference(self, slot: u32, place: Made<Expression>) -> Made<Statement> {
+        Ok(Statement::Reference(slot, place?))
+    }
+
     /// The `int` in this slot is assigned to.
     pub fn set_int(self, slot: u32, value: Made<Operand>) -> Made<Statement> {
         self.does(self.assign(self.variable(slot), value))
@@ -50,6 +55,46 @@ impl Build {
     /// `if` without `else`.
     pub fn if_so(self, condition: Made<Operand>, then: Made<Statement>) -> Made<Statement> {
         Ok(Statement::If(condition?, self.boxed(then)?, self.boxed(self.empty())?))
+    }
+
+    /// `for`, with a condition or without.
+    pub fn for_so(
+        self,
+        first: Made<Statement>,
+        condition: Option<Made<Operand>>,
+        step: Made<Statement>,
+        body: Made<Statement>,
+    ) -> Made<Statement> {
+        let condition = match condition {
+            Some(condition) => Some(condition?),
+            None => None,
+        };
+        Ok(Statement::For(
+            self.boxed(first)?,
+            condition,
+            self.boxed(step)?,
+            self.boxed(body)?,
+        ))
+    }
+
+    /// `break;`.
+    pub fn breaks(self) -> Made<Statement> {
+        Ok(Statement::Break)
+    }
+
+    /// `continue;`.
+    pub fn continues(self) -> Made<Statement> {
+        Ok(Statement::Continue)
+    }
+
+    /// `return;`.
+    pub fn returns_nothing(self) -> Made<Statement> {
+        Ok(Statement::Return)
+    }
+
+    /// `return` of a reference.
+    pub fn returns_reference(self, place: Made<Expression>) -> Made<Statement> {
+        Ok(Statement::ReturnReference(place?))
     }
 
     /// `while`.
@@ -135,6 +180,15 @@ impl Build {
         Ok(Handler {
             catches: Some(of),
             parameter: CatchParameter::Reference(slot),
+            body: body?,
+        })
+    }
+
+    /// `catch (...)`.
+    pub fn catches_all(self, body: Made<Vec<Statement>>) -> Made<Handler> {
+        Ok(Handler {
+            catches: None,
+            parameter: CatchParameter::Unnamed,
             body: body?,
         })
     }

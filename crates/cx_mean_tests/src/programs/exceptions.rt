@@ -123,3 +123,32 @@ pub fn rethrowing(b: Build) -> Made<Program> {
     let main = b.main(b.list([b.tries(b.list([within]), b.list([outer]))]));
     b.program(b.list([main]))
 }
+
+/// `struct U { ~U() { throw 1; } }; int main(){ try { U u; } catch (...) {} return 0; }`
+pub fn throwing_destructor(b: Build) -> Made<Program> {
+    let body = b.list([b.declare_plainly(0, 0, 1)]);
+    let catching = b.catches_all(b.list([]));
+    let functions = b.list([
+        b.main(b.list([b.tries(body, b.list([catching])), b.returns(b.number(0))])),
+        b.implicit_constructor(0),
+        b.implicit_copy(0),
+        b.destructor(0, b.list([b.throws_int(1)])),
+    ]);
+    let u = b.empty_class(b"U", Makers::from_number(1));
+    b.with_classes(b.list([u]), b.program(functions))
+}
+
+/// `int main(){ try { throw 'a'; } catch (int) { return 1; } catch (...) { return 2; } }`
+pub fn throwing_a_char(b: Build) -> Made<Program> {
+    let body = b.list([b.throws(CHAR, b.value(b.number(97)))]);
+    let handlers = b.list([
+        b.catches_int(b.list([b.returns(b.number(1))])),
+        b.catches_all(b.list([b.returns(b.number(2))])),
+    ]);
+    b.program(b.list([b.main(b.list([b.tries(body, handlers)]))]))
+}
+
+/// `int main(){ throw 1; }`
+pub fn catching_nothing(b: Build) -> Made<Program> {
+    b.program(b.list([b.main(b.list([b.throws_int(1)]))]))
+}

@@ -1,6 +1,6 @@
 use crate::build::{Build, Made, Makers, Stated, Under, class};
 use cx_code::{AssertionKind, Semantic};
-use cx_core::{BinaryOperator, Handler, Query, ResultKind, Specifier, Statement};
+use cx_core::{BinaryOperator, Handler, IntegerType, Query, ResultKind, Specifier, Statement};
 use cx_mean::{Function, Program};
 
 /// `f#pre1` at a place of `a.cpp`.
@@ -128,11 +128,100 @@ pub fn handler_rethrows(b: Build) -> Made<Program> {
     )
 }
 
-/// `bool bad() { throw 4; } int f() pre(bad()) { return 1; } int main(){ return f(); }`, observed.
-pub fn throwing_predicate(b: Build) -> Made<Program> {
+/// `bool bad() { throw 4; } int f() pre(bad()) { return 1; } int main(){ return f(); }`, under a semantic.
+pub fn throwing_predicate(b: Build, semantic: Semantic) -> Made<Program> {
     let functions = with_bad(b, b.list([b.returns(b.called(2, b.list([])))]));
     b.with_assertions(
-        &[Under(first_of_f(1, 33, b"bad ( )"), Semantic::Observe, 1)],
+        &[Under(first_of_f(1, 33, b"bad ( )"), semantic, 1)],
         b.program(functions),
+    )
+}
+
+/// `bool bad() { throw 7; } void f() noexcept pre(bad()) {} int main() { f(); return 0; }`, observed.
+pub fn throwing_predicate_of_noexcept(b: Build) -> Made<Program> {
+    let main = b.main(b.list([b.does(b.call(2, b.list([]))), b.returns(b.number(0))]));
+    let bad = b.function(ResultKind::ScalarValue, b.list([b.throws_int(7)]));
+    let holds = b.specifier(0, b.called(1, b.list([])));
+    let f = b.noexcept(b.function(ResultKind::Void, b.list([])));
+    let functions = b.list([main, bad, b.before(b.list([holds]), f)]);
+    b.with_assertions(
+        &[Under(first_of_f(1, 43, b"bad ( )"), Semantic::Observe, 1)],
+        b.program(functions),
+    )
+}
+
+/// The assertion of `main` at a place of `a.cpp`.
+fn in_main(line: u32, column: u32, comment: &'static [u8]) -> Stated {
+    Stated {
+        kind: AssertionKind::Assert,
+        name: b"main#assert1",
+        file: b"a.cpp",
+        line,
+        column,
+        comment,
+    }
+}
+
+/// ```cpp
+/// #include <cstdio>
+/// struct P { ~P() { putchar('p'); } };
+/// bool bad() { throw P(); }
+/// int main() { contract_assert(bad()); return 1; }
+/// ```
+pub fn throwing_an_object_in_a_predicate(b: Build) -> Made<Program> {
+    let main = b.main(b.list([
+        b.asserts(0, b.called(4, b.list([]))),
+        b.returns(b.number(1)),
+    ]));
+    let bad = b.function(
+        ResultKind::ScalarValue,
+        b.list([b.throws(class(0), b.construct_plainly(1))]),
+    );
+    let functions = b.list([
+        main,
+        b.implicit_constructor(0),
+        b.implicit_copy(0),
+        b.destructor(0, b.list([b.says(b'p')])),
+        bad,
+    ]);
+    let p = b.empty_class(b"P", Makers::from_number(1));
+    b.with_assertions(
+        &[Under(in_main(4, 14, b"bad ( )"), Semantic::Enforce, 1)],
+        b.with_classes(b.list([p]), b.program(functions)),
+    )
+}
+
+/// `putchar` of what is asked of the violation, an enumerator.
+fn puts_enumerator(b: Build, query: Query) -> Made<Statement> {
+    let number = b.int_of(b.query(query, b.variable(0)));
+    b.does(b.putchar(b.as_is(number)))
+}
+
+/// `putchar` of what is asked of the violation's place, an `unsigned`.
+fn puts_unsigned(b: Build, query: Query) -> Made<Statement> {
+    let number = b.query(query, b.variable(0));
+    b.does(b.putchar(b.converted(None, IntegerType::Int, number)))
+}
+
+/// ```cpp
+/// #include <contracts>
+/// #include <cstdio>
+/// void handle_contract_violation(const std::contracts::contract_violation& v) {
+///   putchar(int(v.kind())); putchar(int(v.semantic())); putchar(int(v.detection_mode()));
+///   putchar(v.location().line()); putchar(v.location().column()); }
+/// int main(){ contract_assert(false); return 3; }
+/// ```
+pub fn handler_asks(b: Build) -> Made<Program> {
+    let main = b.main(b.list([b.asserts(0, b.number(0)), b.returns(b.number(3))]));
+    let handler = b.violation_handler(b.list([
+        puts_enumerator(b, Query::Kind),
+        puts_enumerator(b, Query::Semantic),
+        puts_enumerator(b, Query::DetectionMode),
+        puts_unsigned(b, Query::Line),
+        puts_unsigned(b, Query::Column),
+    ]));
+    b.with_assertions(
+        &[Under(in_main(6, 13, b"false"), Semantic::Observe, 1)],
+        b.with_handler(1, b.program(b.list([main, handler]))),
     )
 }

@@ -46,4 +46,41 @@ pub const ROWS: &[Row] = &[
                returned 2\n",
         ..PLAIN
     },
+    Row {
+        of: Worked::ThrowingArgument,
+        told: "throw int\n\
+               out 112\n\
+               destroyed P 1 0\n\
+               catch int\n\
+               returned 3\n",
+        ..PLAIN
+    },
+    Row {
+        of: Worked::ThrowingConstructor,
+        told: "throw int\n\
+               out 112\n\
+               destroyed P 1 0\n\
+               catch int\n\
+               returned 3\n",
+        ..PLAIN
+    },
+    Row {
+        of: Worked::ThrowingDestructor,
+        told: "throw int\n\
+               terminated\n",
+        ..PLAIN
+    },
+    Row {
+        of: Worked::ThrowingAChar,
+        told: "throw char\n\
+               catch char\n\
+               returned 2\n",
+        ..PLAIN
+    },
+    Row {
+        of: Worked::CatchingNothing,
+        told: "throw int\n\
+               terminated\n",
+        ..PLAIN
+    },
 ];

@@ -44,4 +44,63 @@ pub const ROWS: &[Row] = &[
         told: "undefined: dead\n",
         ..PLAIN
     },
+    Row {
+        of: Worked::EmptyMain,
+        told: "returned 0\n",
+        ..PLAIN
+    },
+    // 115 + 4 + 3 + 28 + 18 + 736 + 0, six comparisons, three of which hold, 5 + 18 + 23, -5 + 0 - 6
+    Row {
+        of: Worked::Operating,
+        told: "returned 942\n",
+        ..PLAIN
+    },
+    Row {
+        of: Worked::Skipping,
+        told: "returned 4\n",
+        ..PLAIN
+    },
+    Row {
+        of: Worked::DividingByZero,
+        told: "undefined: division\n",
+        ..PLAIN
+    },
+    // 0 + 1 + 3 + 4
+    Row {
+        of: Worked::BreakingAndContinuing,
+        told: "returned 8\n",
+        ..PLAIN
+    },
+    Row {
+        of: Worked::IncrementingAfter,
+        told: "returned 5\n",
+        ..PLAIN
+    },
+    Row {
+        of: Worked::UsingNull,
+        told: "undefined: null\n",
+        ..PLAIN
+    },
+    Row {
+        of: Worked::InitialisedByItself,
+        told: "undefined: unset\n",
+        ..PLAIN
+    },
+    Row {
+        of: Worked::ReferringToItself,
+        told: "undefined: null\n",
+        ..PLAIN
+    },
+    Row {
+        of: Worked::Referring,
+        told: "begin f#post1 definer enforce\n\
+               verdict holds\n\
+               returned 6\n",
+        ..PLAIN
+    },
+    Row {
+        of: Worked::ReturningNothing,
+        told: "returned 4\n",
+        ..PLAIN
+    },
 ];

@@ -1,5 +1,6 @@
 use crate::programs::Worked;
 use crate::rows::{PLAIN, Row};
+use cx_code::Semantic;
 
 /// Violation handlers: what they are told, and what follows where they throw.
 pub const ROWS: &[Row] = &[
@@ -42,7 +43,7 @@ pub const ROWS: &[Row] = &[
     },
     // the default handler
     Row {
-        of: Worked::ThrowingPredicate,
+        of: Worked::ThrowingPredicate(Semantic::Observe),
         told: "begin f#pre1 definer observe\n\
                throw int\n\
                verdict threw\n\
@@ -107,6 +108,58 @@ pub const ROWS: &[Row] = &[
                destroyed Account 1 0\n\
                catch int\n\
                returned 2\n",
+        ..PLAIN
+    },
+    Row {
+        of: Worked::ThrowingPredicate(Semantic::Enforce),
+        told: "begin f#pre1 definer enforce\n\
+               throw int\n\
+               verdict threw\n\
+               handler pre evaluation_exception enforce a.cpp:1:33 f#pre1: bad ( )\n\
+               contract-terminated\n",
+        ..PLAIN
+    },
+    Row {
+        of: Worked::ThrowingPredicate(Semantic::QuickEnforce),
+        told: "begin f#pre1 definer quick_enforce\n\
+               throw int\n\
+               verdict threw\n\
+               contract-terminated\n",
+        ..PLAIN
+    },
+    // the exception of a predicate doesn't reach the edge
+    Row {
+        of: Worked::ThrowingPredicateOfNoexcept,
+        told: "begin f#pre1 definer observe\n\
+               throw int\n\
+               verdict threw\n\
+               handler pre evaluation_exception observe a.cpp:1:43 f#pre1: bad ( )\n\
+               returned 0\n",
+        ..PLAIN
+    },
+    // it dies when the handler returns
+    Row {
+        of: Worked::ThrowingAnObjectInAPredicate,
+        told: "begin main#assert1 definer enforce\n\
+               throw P\n\
+               verdict threw\n\
+               handler assert evaluation_exception enforce a.cpp:4:14 main#assert1: bad ( )\n\
+               out 112\n\
+               destroyed P 1 0\n\
+               contract-terminated\n",
+        ..PLAIN
+    },
+    Row {
+        of: Worked::HandlerAsks,
+        told: "begin main#assert1 definer observe\n\
+               verdict false\n\
+               handler assert predicate_false observe a.cpp:6:13 main#assert1: false\n\
+               out 3\n\
+               out 2\n\
+               out 1\n\
+               out 6\n\
+               out 13\n\
+               returned 3\n",
         ..PLAIN
     },
 ];

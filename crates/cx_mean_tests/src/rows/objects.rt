@@ -73,4 +73,55 @@ pub const ROWS: &[Row] = &[
                returned 5\n",
         ..PLAIN
     },
+    Row {
+        of: Worked::CopyingWhatIsUnset,
+        told: "destroyed S 2 0\n\
+               destroyed S 1 0\n\
+               returned 4\n",
+        ..PLAIN
+    },
+    Row {
+        of: Worked::CopyingNestedObjects,
+        told: "destroyed A 2 0\n\
+               destroyed B 2 0\n\
+               destroyed A 1 0\n\
+               destroyed B 1 0\n\
+               returned 0\n",
+        ..PLAIN
+    },
+    Row {
+        of: Worked::MemberOfTheDead,
+        told: "destroyed S 1 0\n\
+               undefined: dead\n",
+        ..PLAIN
+    },
+    // the field ends between the body and the postcondition
+    Row {
+        of: Worked::CheckedDestruction,
+        told: "begin W::W#post1 definer enforce\n\
+               out 33\n\
+               verdict holds\n\
+               begin W::~W#pre1 definer enforce\n\
+               out 33\n\
+               verdict holds\n\
+               out 87\n\
+               out 112\n\
+               destroyed P 1 0\n\
+               begin W::~W#post1 definer enforce\n\
+               out 33\n\
+               verdict holds\n\
+               destroyed W 1 0\n\
+               returned 0\n",
+        ..PLAIN
+    },
+    // the parameters are objects 1 and 4, the temporary 2
+    Row {
+        of: Worked::ParametersBeforeTemporaries,
+        told: "out 112\n\
+               destroyed P 4 0\n\
+               out 116\n\
+               destroyed T 2 0\n\
+               returned 0\n",
+        ..PLAIN
+    },
 ];
