@@ -1,6 +1,7 @@
 mod account;
 mod assertions;
 mod blocks;
+pub mod chain;
 mod classes;
 mod depth;
 mod exceptions;

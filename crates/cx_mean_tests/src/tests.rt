@@ -1,11 +1,12 @@
 use crate::build::{Build, Made};
 use crate::programs::Worked;
+use crate::programs::chain::{Units, begins_of_chain, chain_of};
 use crate::rows::{
     LARGE, Row, assertions, blocks, depth, exceptions, expressions, handlers, objects,
 };
 use crate::told::{Counts, begins_in, counted, told};
 use cx_code::{Ending, Party, Semantic};
-use cx_mean::mean_of;
+use cx_mean::{Program, mean_of};
 use cx_outside::{NoMemory, Text};
 use cx_plain_state::{Answer, Evaluation};
 use std::alloc::Global;
@@ -87,13 +88,15 @@ fn begins_of_handlers(alloc: Global, times: u32) -> Made<Vec<Evaluation>> {
     Ok(begins)
 }
 
-/// What handlers within handlers count up to, if they end as too deep.
-fn counts_of_handlers(alloc: Global) -> Made<Option<Counts>> {
-    let program = Worked::HandlingWithinHandling.program(Build { alloc })?;
-    let begins = begins_of_handlers(alloc, 4095)?;
-    match mean_of(alloc, &program, begins.as_slice(), b"", LARGE) {
+/// The counts of a run that ends, and how it ends.
+fn counts_of(
+    alloc: Global,
+    program: &Program,
+    begins: &[Evaluation],
+) -> Made<Option<(Counts, Ending)>> {
+    match mean_of(alloc, program, begins, b"", LARGE) {
         Ok(meaning) => match meaning.answer {
-            Answer::Ended(Ending::TooDeep) => Ok(Some(counted(meaning.trace.as_slice()))),
+            Answer::Ended(ending) => Ok(Some((counted(meaning.trace.as_slice()), ending))),
             _ => Ok(None),
         },
         Err(_) => Err(NoMemory),
@@ -102,12 +105,38 @@ fn counts_of_handlers(alloc: Global) -> Made<Option<Counts>> {
 
 #[test]
 fn handlers_within_handlers_become_too_deep(rt: HostRuntime) -> Result<(), Fail> {
+    let alloc = rt.alloc();
+    let program = Worked::HandlingWithinHandling.program(Build { alloc })?;
+    let begins = begins_of_handlers(alloc, 4095)?;
     let wanted = Counts {
         begins: 4096,
         verdicts: 4096,
         handlers: 4095,
         events: 4096 + 4096 + 4095,
     };
-    assert_eq!(rt; counts_of_handlers(rt.alloc())?, Some(wanted));
+    let found = counts_of(alloc, &program, begins.as_slice())?;
+    assert_eq!(rt; found, Some((wanted, Ending::TooDeep)));
+    Ok(())
+}
+
+/// The counts of a run of a chain of functions, and how it ends.
+fn counts_of_chain(alloc: Global, units: Units) -> Made<Option<(Counts, Ending)>> {
+    let program = chain_of(Build { alloc }, units)?;
+    let begins = begins_of_chain(alloc, units)?;
+    counts_of(alloc, &program, begins.as_slice())
+}
+
+#[test]
+fn a_chain_of_functions_is_checked_by_both_parties(rt: HostRuntime) -> Result<(), Fail> {
+    for (units, begins, events, value) in [(Units::One, 96, 192, 15), (Units::Two, 292, 584, 31)] {
+        let wanted = Counts {
+            begins,
+            verdicts: begins,
+            handlers: 0,
+            events,
+        };
+        let found = counts_of_chain(rt.alloc(), units)?;
+        assert_eq!(rt; found, Some((wanted, Ending::Returned(value))));
+    }
     Ok(())
 }
