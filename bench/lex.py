@@ -10,7 +10,7 @@ usage: bench/lex.py [FOLDER]     FOLDER keeps the build for the next run
 import subprocess
 import time
 
-from scratch import copy_crates, folder_given
+from scratch import built, copy_crates, folder_given, text_of
 
 PROGRAM = """#![tactic(auto)]
 
@@ -40,27 +40,12 @@ LINES = [
 ]
 
 
-def text_of(size):
-    parts, length, number = [], 0, 0
-    while length < size:
-        part = "".join(line.format(number) for line in LINES)
-        parts.append(part)
-        length += len(part)
-        number += 1
-    return "".join(parts).encode()
-
-
 def build(folder):
     lines = copy_crates(folder, "cx_lexer")
     source = folder / "crates" / "tokens" / "src"
     source.mkdir(parents=True, exist_ok=True)
     (source / "main.rt").write_text(PROGRAM)
-    (folder / "crates.txt").write_text("\n".join(lines + ["tokens: cx_lexer cx_syntax"]) + "\n")
-    program = source.parent / "out" / "tokens"
-    if not program.exists():
-        subprocess.run(["rt", "all", "check"], cwd=folder, check=True, stdout=subprocess.DEVNULL)
-        subprocess.run(["rt", "run"], cwd=source.parent, check=True, stdin=subprocess.DEVNULL, stdout=subprocess.DEVNULL)
-    return program
+    return built(folder, lines + ["tokens: cx_lexer cx_syntax"], "tokens")
 
 
 def seconds(command, text):
@@ -72,7 +57,7 @@ def seconds(command, text):
 def main():
     with folder_given() as folder:
         program = build(folder)
-        one, two = text_of(1_000_000), text_of(2_000_000)
+        one, two = text_of(LINES, 1_000_000), text_of(LINES, 2_000_000)
         rows = {
             "tokens 1 MB": ([str(program)], one),
             "tokens 2 MB": ([str(program)], two),

@@ -8,11 +8,10 @@ minutes. A run's time includes starting and loading, which the lexer's has too.
 
 usage: bench/parse.py [FOLDER]     FOLDER keeps the build, of the crates as they are then, for the next run
 """
-import resource
 import subprocess
 import sys
 
-from scratch import TOP, copy_crates, folder_given
+from scratch import TOP, built, copy_crates, folder_given, text_of, user_time
 
 ROUNDS = 5
 # what is done with the marks: the stage's name, and the crate whose function of this name does it
@@ -90,16 +89,6 @@ LINES = [
 ]
 
 
-def text_of(size):
-    parts, length, number = [], 0, 0
-    while length < size:
-        part = "".join(line.format(number) for line in LINES)
-        parts.append(part)
-        length += len(part)
-        number += 1
-    return "".join(parts).encode()
-
-
 def build(folder, stages):
     crates = ["cx_lexer", "cx_marks", "cx_syntax"] + [crate for _, crate in stages]
     lines = list(dict.fromkeys(line for crate in crates for line in copy_crates(folder, crate)))
@@ -107,22 +96,15 @@ def build(folder, stages):
     source.mkdir(parents=True, exist_ok=True)
     arms = [f'        "{name}" => {crate}::{name}(alloc, marks).is_ok(),' for name, crate in stages]
     (source / "main.rt").write_text(PROGRAM.replace("ARMS", "\n".join(arms)))
-    (folder / "crates.txt").write_text("\n".join(lines + [f"reading: {' '.join(crates)}"]) + "\n")
-    program = source.parent / "out" / "reading"
-    if not program.exists():
-        subprocess.run(["rt", "all", "check"], cwd=folder, check=True, stdout=subprocess.DEVNULL)
-        subprocess.run(["rt", "run"], cwd=source.parent, check=True, stdin=subprocess.DEVNULL, stdout=subprocess.DEVNULL)
-    return program
+    return built(folder, lines + [f"reading: {' '.join(crates)}"], "reading")
 
 
 def seconds(program, stage, text):
     """The user time of a run that comes through."""
-    before = resource.getrusage(resource.RUSAGE_CHILDREN).ru_utime
-    done = subprocess.run([program, stage], input=text, capture_output=True, check=True)
-    after = resource.getrusage(resource.RUSAGE_CHILDREN).ru_utime
+    done, taken = user_time(lambda: subprocess.run([program, stage], input=text, capture_output=True, check=True))
     if done.stdout != b"true\n":
         sys.exit(f"{stage} says {done.stdout.decode(errors='replace')}")
-    return after - before
+    return taken
 
 
 def main():
@@ -130,7 +112,7 @@ def main():
     stages = [stage for stage in STAGES if stage[1] in listed]
     with folder_given() as folder:
         program = build(folder, stages)
-        texts = {1: text_of(1_000_000), 2: text_of(2_000_000)}
+        texts = {1: text_of(LINES, 1_000_000), 2: text_of(LINES, 2_000_000)}
         rows = [(stage, size) for stage in ["lex", "marks"] + [name for name, _ in stages] for size in texts]
         least = {}
         for _ in range(ROUNDS):

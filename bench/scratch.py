@@ -1,7 +1,9 @@
 """Scratch repositories for the programs that are measured: some crates of this one, with all that they stand on."""
 import contextlib
 import pathlib
+import resource
 import shutil
+import subprocess
 import sys
 import tempfile
 
@@ -42,3 +44,34 @@ def copy_crates(folder, crate, *ignored):
         if not (folder / "crates" / name).exists():
             shutil.copytree(TOP / "crates" / name, folder / "crates" / name, ignore=shutil.ignore_patterns("out", *ignored))
     return lines
+
+
+def built(folder, lines, crate, *words):
+    """The program of a crate of a scratch repository with these lines of crates.txt; it is proved, built, and run once
+    with the words, unless an earlier run has left it there."""
+    (folder / "crates.txt").write_text("\n".join(lines) + "\n")
+    place = folder / "crates" / crate
+    program = place / "out" / crate
+    if not program.exists():
+        subprocess.run(["rt", "all", "check"], cwd=folder, check=True, stdout=subprocess.DEVNULL)
+        run = ["rt", "run"] + (["--", *words] if words else [])
+        subprocess.run(run, cwd=place, check=True, stdin=subprocess.DEVNULL, stdout=subprocess.DEVNULL)
+    return program
+
+
+def text_of(lines, size):
+    """At least so many bytes of a text that repeats the lines, numbered from 0."""
+    parts, length, number = [], 0, 0
+    while length < size:
+        part = "".join(line.format(number) for line in lines)
+        parts.append(part)
+        length += len(part)
+        number += 1
+    return "".join(parts).encode()
+
+
+def user_time(run):
+    """What a call gives, and the user time of the processes that it ran."""
+    before = resource.getrusage(resource.RUSAGE_CHILDREN).ru_utime
+    done = run()
+    return done, resource.getrusage(resource.RUSAGE_CHILDREN).ru_utime - before

@@ -10,12 +10,11 @@ and lua5.4 for the last column (`apt-get install -y lua5.4`). It builds once, wh
 usage: bench/vm.py [FOLDER]     FOLDER keeps the build, of the crates as they are then, for the next run
 """
 import re
-import resource
 import shutil
 import subprocess
 import sys
 
-from scratch import TOP, copy_crates, folder_given
+from scratch import TOP, built, copy_crates, folder_given, user_time
 
 ROUNDS = 5
 SHORT = 10  # the short run has so many times fewer steps
@@ -158,12 +157,7 @@ def build(folder):
     lemmas.write_text(lemmas.read_text().replace("mod rows\n", ""))
     (scratch / "src" / "main.rt").write_text(main_file())
     (scratch / "src" / "programs.rt").write_text(programs())
-    (folder / "crates.txt").write_text("\n".join(lines) + "\n")
-    program = scratch / "out" / "cx_machine_tests"
-    if not program.exists():
-        subprocess.run(["rt", "all", "check"], cwd=folder, check=True, stdout=subprocess.DEVNULL)
-        subprocess.run(["rt", "run", "--", "none"], cwd=scratch, check=True, stdin=subprocess.DEVNULL, stdout=subprocess.DEVNULL)
-    return program
+    return built(folder, lines, "cx_machine_tests", "none")
 
 
 def build_c(folder, name, number):
@@ -174,13 +168,12 @@ def build_c(folder, name, number):
 
 def seconds(command, bytes_in, said):
     """The user time of a run, whose last line must say so much."""
-    before = resource.getrusage(resource.RUSAGE_CHILDREN).ru_utime
-    done = subprocess.run(command, stdin=open(bytes_in, "rb"), capture_output=True, check=True)
-    after = resource.getrusage(resource.RUSAGE_CHILDREN).ru_utime
+    with open(bytes_in, "rb") as stdin:
+        done, taken = user_time(lambda: subprocess.run(command, stdin=stdin, capture_output=True, check=True))
     last = done.stdout[-100:].decode(errors="replace").splitlines()[-1] if said else ""
     if said and not re.search(said, last):
         sys.exit(f"{' '.join(map(str, command))} says {last}")
-    return after - before
+    return taken
 
 
 def measured(folder, case, machine, c64, c128):
