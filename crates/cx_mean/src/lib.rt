@@ -36,4 +36,4 @@ mod waiting;
 mod zero;
 
 pub use program::{CallerChecks, Class, Function, PlannedAssertion, Program};
-pub use run::{Meaning, Want};
+pub use run::{Meaning, Want, mean_of};
