@@ -10,7 +10,6 @@ use Rattle.cx_core.specs.Tree as tree
 use Rattle.cx_core.specs.Tree.{Args, Expr, Init}
 use Rattle.cx_core.specs.Numbered.{Numbers, expr_of, constant, argument_layer, expression_layer, initializer_layer, operand_layer}
 
-
 pub opened-literal : (n : Numbers) → (c : Constant) → expr_of n (rust.Literal c) ≡ tree.literal (constant c)
 opened-literal n c =
     ap (expr_of n) (sym (rust.rolls-Literal c))
@@ -27,22 +26,22 @@ opened-global n i =
     ∙ fold-roll-Expression (Args → Args) Expr Init tree.Operand (argument_layer n) (expression_layer n) (initializer_layer n) (operand_layer n) (Expression-F.Global i)
 
 pub opened-this : (n : Numbers) → expr_of n rust.This ≡ tree.this
-opened-this n  =
+opened-this n =
     ap (expr_of n) (sym rust.rolls-This)
     ∙ fold-roll-Expression (Args → Args) Expr Init tree.Operand (argument_layer n) (expression_layer n) (initializer_layer n) (operand_layer n) Expression-F.This
 
 pub opened-result_name : (n : Numbers) → expr_of n rust.ResultName ≡ tree.result_name
-opened-result_name n  =
+opened-result_name n =
     ap (expr_of n) (sym rust.rolls-ResultName)
     ∙ fold-roll-Expression (Args → Args) Expr Init tree.Operand (argument_layer n) (expression_layer n) (initializer_layer n) (operand_layer n) Expression-F.ResultName
 
 pub opened-exception_object : (n : Numbers) → expr_of n rust.ExceptionObject ≡ tree.exception_object
-opened-exception_object n  =
+opened-exception_object n =
     ap (expr_of n) (sym rust.rolls-ExceptionObject)
     ∙ fold-roll-Expression (Args → Args) Expr Init tree.Operand (argument_layer n) (expression_layer n) (initializer_layer n) (operand_layer n) Expression-F.ExceptionObject
 
 pub opened-getchar : (n : Numbers) → expr_of n rust.Getchar ≡ tree.getchar
-opened-getchar n  =
+opened-getchar n =
     ap (expr_of n) (sym rust.rolls-Getchar)
     ∙ fold-roll-Expression (Args → Args) Expr Init tree.Operand (argument_layer n) (expression_layer n) (initializer_layer n) (operand_layer n) Expression-F.Getchar
 

@@ -4,4 +4,5 @@ pub mod Frames
 pub mod Steps
 pub mod Parts
 pub mod CallParts
+pub mod StatementParts
 pub mod Runs

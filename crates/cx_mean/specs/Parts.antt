@@ -1,22 +1,24 @@
 -- Parts of the machine's steps that have functions of their own here.
-use Rattle.std.specs.Prelude.{ℕ, ◌+◌, Bool, not, if◌then◌else◌, List, [], ◌∷◌, Option, Some, map, pos, slice_get}
+use Rattle.std.specs.Prelude.{ℕ, ◌+◌, Bool, not, if◌then◌else◌, List, [], ◌∷◌, Option, Some, map, reverse, pos, slice_get}
 use Rattle.cx_core.specs.Tree as tree
-use Rattle.cx_core.specs.Tree.{Operand, Args, Init}
-use Rattle.cx_core.specs.Program.{Program, Class}
+use Rattle.cx_core.specs.Tree.{ObjectType, Operand, Args, Init}
+use Rattle.cx_core.specs.Program.{Program, Class, Field}
+use Rattle.cx_core.specs.Event as event
+use Rattle.cx_core.specs.Leaving.{class_fields}
 use Rattle.cx_core.specs.declared.number.IntegerType.{IntegerType}
 use Rattle.cx_core.specs.declared.number.BinaryOperator.{BinaryOperator}
 use Rattle.cx_core.specs.declared.number.UnaryOperator.{UnaryOperator}
 use Rattle.cx_core.specs.Store.{Address, Value, number, address, null, place_in}
-use Rattle.cx_core.specs.Outcome.{Living, whole, Exception, Does, Nothing, ◌>>=◌, ◌>>◌, gives, throws, some, current_frame, current_living, current_temporaries, current_held, set_held, spend, spend_all, make, end_lifetime, place_of, read_leaf, write}
+use Rattle.cx_core.specs.Outcome.{Living, whole, Exception, Does, Nothing, ◌>>=◌, ◌>>◌, gives, throws, some, current_frame, current_living, current_temporaries, current_held, set_held, append, set_temporaries, spend, spend_all, make, end_lifetime, place_of, read_leaf, write}
 use Rattle.cx_core.specs.Check.{truth}
-use Rattle.cx_core.specs.Operators.{constant, named, truth_value, operated, unary_operated, stored, updated, step}
+use Rattle.cx_core.specs.Operators.{constant, named, bind, truth_value, operated, unary_operated, stored, updated, step}
 use Rattle.cx_core.specs.declared.unit.LeafKind.{LeafKind}
 use Rattle.cx_core.specs.Linked.{leaf_kind}
-use Rattle.cx_core.specs.Statements.{zero_leaf, zero_leaves, zero_object}
-use Rattle.cx_core.specs.Meaning.{held_object, object_place, result_stored}
+use Rattle.cx_core.specs.Statements.{zero_leaf, zero_leaves, zero_object, keep_field, type_name}
+use Rattle.cx_core.specs.Meaning.{held_object, object_place, result_stored, copy_leaf}
 use Rattle.cx_plain.specs.Task as task
-use Rattle.cx_plain.specs.Task.{Level, Left, Next}
-use Rattle.cx_plain.specs.Step.{answered, doing, giving, left_by, no_calls, step_call, valued}
+use Rattle.cx_plain.specs.Task.{Level, Left, Keeper, Task, Next}
+use Rattle.cx_plain.specs.Step.{answered, bind_object, doing, giving, keeps, silent, left_by, no_calls, step_call, valued}
 
 -- ---- expressions without parts
 
@@ -174,3 +176,74 @@ result_ended n v = valued (end_lifetime n >> gives v)
 
 abbrev pub ended_by : ℕ → Exception → Does Next
 ended_by n e = end_lifetime n >> throws e
+
+-- ---- objects
+
+abbrev pub object_gone : ℕ → Does Next
+object_gone n = silent (end_lifetime n)
+
+abbrev pub class_object_gone : Level → ℕ → ℕ → Does Next
+class_object_gone level n c = doing (task.destroying level c (record { object = n; leaf = 0 })) (task.end_object n ∷ [])
+
+abbrev pub first_ending : Level → Living → List Living → Does Next
+first_ending level l living = doing (task.ending level l) (task.then_next (task.ending_each level living) ∷ [])
+
+abbrev pub destroyed_by : Level → Class → Address → Does Next
+destroyed_by level c a = doing (task.call_on level c.destructor a []) []
+
+abbrev pub first_destroying : Level → Address → ℕ × ℕ → List (ℕ × ℕ) → Does Next
+first_destroying level a f fields =
+    doing (task.destroying level f.1 (place_in a f.0)) (task.then_next (task.destroying_each level a fields) ∷ [])
+
+abbrev pub fields_destroyed_by : Level → Class → Address → Does Next
+fields_destroyed_by level c a = doing (task.destroying_each level a (reverse (class_fields c.fields))) []
+
+abbrev pub made_at : Level → Keeper → ObjectType → Option ℕ → Init → ℕ → Does Next
+made_at level keeper type slot i leaves = do
+  n ← make leaves
+  bind_object slot (record { object = n; leaf = 0 })
+  doing (task.initialise level i (record { object = n; leaf = 0 })) (task.made keeper n type ∷ [])
+
+abbrev pub object_kept : Keeper → ℕ → ObjectType → Does Next
+object_kept keeper n type = answered task.number (keeps keeper (whole n type) >> gives n)
+
+-- whatever the program is
+abbrev pub field_kept : Program → Address → ObjectType → Does Next
+field_kept program a type = silent (keep_field program no_calls a type)
+
+abbrev pub value_written : Address → Value → Does Next
+value_written p v = silent (write p (Some v))
+
+abbrev pub place_bound : ℕ → Value → Does Next
+place_bound slot v = silent (bind slot v)
+
+abbrev pub exception_thrown : Program → Exception → Does Next
+exception_thrown program e = do
+  spend
+  append (event.throw (type_name program e.type))
+  throws e
+
+-- ---- fields
+
+abbrev pub this_place_of : Does Address
+this_place_of = named 0 >>= place_of
+
+abbrev pub leaf_copied : Address → Address → Does Nothing
+leaf_copied from to = spend >> read_leaf from >>= write to
+
+abbrev pub copied_leaf : Program → Address → Address → Does Next
+copied_leaf program source to = silent (copy_leaf program no_calls source to)
+
+abbrev pub field_started : Level → Address → ObjectType → Task → Task → Does Next
+field_started level a type t rest = do
+  outer ← current_temporaries
+  set_temporaries []
+  doing t (task.leaving_full level outer ∷ task.keeping_field a type ∷ task.then_next rest ∷ [])
+
+abbrev pub default_started : Program → Level → (leaf class constructor : ℕ) → List Field → Does Next
+default_started program level leaf class constructor fields = do
+  this ← this_place_of
+  field_started level (place_in this leaf) (tree.class class) (task.call_on level constructor (place_in this leaf) []) (task.default_fields level fields)
+
+abbrev pub copied_by : Level → Class → Address → Address → Does Next
+copied_by level c source to = doing (task.call_on level c.copy_constructor to (address source ∷ [])) []

@@ -53,4 +53,3 @@ settled_from frames o = after o (λ n. gives (placed frames n)) (λ e. gives (pa
 abbrev pub left_outcome : task.Left → Does Value
 left_outcome (task.given g) = on_value g gives
 left_outcome (task.thrown e) = throws e
-

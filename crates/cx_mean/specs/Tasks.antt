@@ -1,10 +1,9 @@
 -- What the tasks of this program stand for in the machine for the meaning; this project's own.
 use Rattle.std.specs.Prelude.{ℕ, List, [], ◌∷◌, map, reverse, Option, Some, None}
 use Rattle.std.specs.Option.{option_map}
-use Rattle.cx_core.specs.declared.expression.Operand as rust_operand
 use Rattle.cx_core.specs.Tree as tree
 use Rattle.cx_core.specs.Leaving as leaving
-use Rattle.cx_core.specs.Numbered.{Numbers, expr_of, operand_of, init_of, stmt_of, stmts_of, object_type}
+use Rattle.cx_core.specs.Numbered.{Numbers, expr_of, operand_of, init_of, stmt_of, stmts_of, object_type, condition_of}
 use Rattle.cx_core.specs.Linked.{assertion_of}
 use Rattle.cx_plain.specs.Task as task
 use Rattle.cx_plain_state.specs.Seen.{value_of, address_of, type_of, living_of, livings_of, exception_of, violation_of}
@@ -63,13 +62,9 @@ module _ (numbers : Numbers) where
   abbrev pub due_of : Due → task.Due
   due_of d = record { check = check_seen d.check; left = d.left }
 
-  abbrev pub condition_seen : Option rust_operand.Operand → tree.Condition
-  condition_seen None = tree.always
-  condition_seen (Some a) = tree.while (operand_of numbers a)
-
   abbrev pub loop_of : Loop → task.Loop
   loop_of l = record {
-    condition = condition_seen (option_map (λ a. a.now) l.condition);
+    condition = condition_of numbers (option_map (λ a. a.now) l.condition);
     step = option_map (λ s. stmt_of numbers s.now.value) l.step;
     body = stmt_of numbers l.body.now.value;
   }
@@ -88,7 +83,7 @@ module _ (numbers : Numbers) where
   statement_task_of (statements.Statements level b) = task.statements (level_of level) (stmts_of numbers b.now)
   statement_task_of (statements.Block level b) = task.block (level_of level) (stmts_of numbers b.now)
   statement_task_of (statements.Handling level h e) = task.handling (level_of level) (handlers_of numbers h.now) (exception_of e)
-  statement_task_of (statements.Testing level c) = task.testing (level_of level) (condition_seen (option_map (λ a. a.now) c))
+  statement_task_of (statements.Testing level c) = task.testing (level_of level) (condition_of numbers (option_map (λ a. a.now) c))
   statement_task_of (statements.Looping level l) = task.looping (level_of level) (loop_of l)
   statement_task_of (statements.Turns level l n) = task.turns (level_of level) (loop_of l) n
 

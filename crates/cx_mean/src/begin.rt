@@ -52,7 +52,12 @@ fn add_globals(alloc: Global, state: &mut State<'_>, globals: &[Constant]) -> Re
 
 impl<'p> Machine<'p> {
     /// A run that has not begun: each global has its first value.
-    pub(crate) fn begin(&self, begins: &'p [Evaluation], input: &'p [u8], budget: u64) -> Result<State<'p>, Want>
+    pub(crate) fn begin(
+        &self,
+        begins: &'p [Evaluation],
+        input: &'p [u8],
+        budget: u64,
+    ) -> Result<State<'p>, Want>
         ensures { IfOk result (λ state. state_of state ≡ start (program_of self.now.program.now) (map evaluation_of begins.now) input.now budget) }
     {
         let mut state = State::new(self.alloc, begins, input, budget);

@@ -11,8 +11,8 @@ ghost use Rattle.cx_mean.specs.Seen.{numbers_of, program_of, args_of, result_kin
 ghost use Rattle.cx_mean.specs.Tasks.{level_of};
 ghost use Rattle.cx_mean.specs.Steps.{Steps};
 
-use crate::machine::Machine;
 use crate::leaf::{exception_object, global, literal, result_name, valued, variable};
+use crate::machine::Machine;
 use crate::task::{CallTask, ExpressionTask, Keeper, Level, ObjectTask, Task};
 use crate::waiting::{ArgumentFrame, Next, OperandFrame, Operation, Waiting};
 use cx_code::Kind;
@@ -23,7 +23,13 @@ use cx_types::ValueType;
 #[tactic(auto, unfolding(cx_core::specs::Outcome::either, cx_core::specs::Outcome::gives, cx_core::specs::Outcome::ends, cx_core::specs::Outcome::throws))]
 impl<'p> Machine<'p> {
     /// An operand is evaluated under one more frame.
-    pub(crate) fn used_under(&self, state: &State<'p>, level: Level, a: &'p Operand, frame: OperandFrame<'p>) -> Result<Next<'p>, Halt>
+    pub(crate) fn used_under(
+        &self,
+        state: &State<'p>,
+        level: Level,
+        a: &'p Operand,
+        frame: OperandFrame<'p>,
+    ) -> Result<Next<'p>, Halt>
         ensures { let n = numbers_of self.now.program.now in Ran (next_of n) (doing (tasks.used (level_of level) (operand_of n a.now)) (operand_frame_of n frame.entry ∷ []) (state_of state.now)) result (state_of state.now) }
     {
         let task = Task::Expression(ExpressionTask::Used(level, a));
@@ -31,7 +37,13 @@ impl<'p> Machine<'p> {
     }
 
     /// An expression is evaluated under one more frame.
-    pub(crate) fn evaluated_under(&self, state: &State<'p>, level: Level, e: &'p Expression, frame: OperandFrame<'p>) -> Result<Next<'p>, Halt>
+    pub(crate) fn evaluated_under(
+        &self,
+        state: &State<'p>,
+        level: Level,
+        e: &'p Expression,
+        frame: OperandFrame<'p>,
+    ) -> Result<Next<'p>, Halt>
         ensures { let n = numbers_of self.now.program.now in Ran (next_of n) (doing (tasks.expression (level_of level) (expr_of n e.now)) (operand_frame_of n frame.entry ∷ []) (state_of state.now)) result (state_of state.now) }
     {
         let task = Task::Expression(ExpressionTask::Expression(level, e));
@@ -39,7 +51,13 @@ impl<'p> Machine<'p> {
     }
 
     /// An operand is evaluated as a truth under one more frame.
-    pub(crate) fn truth_under(&self, state: &State<'p>, level: Level, a: &'p Operand, frame: OperandFrame<'p>) -> Result<Next<'p>, Halt>
+    pub(crate) fn truth_under(
+        &self,
+        state: &State<'p>,
+        level: Level,
+        a: &'p Operand,
+        frame: OperandFrame<'p>,
+    ) -> Result<Next<'p>, Halt>
         ensures { let n = numbers_of self.now.program.now in Ran (next_of n) (doing (tasks.used_truth (level_of level) (operand_of n a.now)) (operand_frame_of n frame.entry ∷ []) (state_of state.now)) result (state_of state.now) }
     {
         let task = Task::Expression(ExpressionTask::UsedTruth(level, a));
@@ -47,21 +65,39 @@ impl<'p> Machine<'p> {
     }
 
     /// An operand is evaluated for an operation.
-    fn operand_of(&self, state: &State<'p>, level: Level, a: &'p Operand, operation: Operation<'p>) -> Result<Next<'p>, Halt>
+    fn operand_of(
+        &self,
+        state: &State<'p>,
+        level: Level,
+        a: &'p Operand,
+        operation: Operation<'p>,
+    ) -> Result<Next<'p>, Halt>
         ensures { let n = numbers_of self.now.program.now in Ran (next_of n) (doing (tasks.used (level_of level) (operand_of n a.now)) (tasks.operate (operation_of operation.entry) ∷ []) (state_of state.now)) result (state_of state.now) }
     {
         self.used_under(state, level, a, OperandFrame::Operate(operation))
     }
 
     /// An expression is evaluated for an operation.
-    fn place_of(&self, state: &State<'p>, level: Level, e: &'p Expression, operation: Operation<'p>) -> Result<Next<'p>, Halt>
+    fn place_of(
+        &self,
+        state: &State<'p>,
+        level: Level,
+        e: &'p Expression,
+        operation: Operation<'p>,
+    ) -> Result<Next<'p>, Halt>
         ensures { let n = numbers_of self.now.program.now in Ran (next_of n) (doing (tasks.expression (level_of level) (expr_of n e.now)) (tasks.operate (operation_of operation.entry) ∷ []) (state_of state.now)) result (state_of state.now) }
     {
         self.evaluated_under(state, level, e, OperandFrame::Operate(operation))
     }
 
     /// A temporary is made, and gives its place.
-    fn temporary(&self, state: &State<'p>, level: Level, of: ValueType, i: &'p Initializer) -> Result<Next<'p>, Halt>
+    fn temporary(
+        &self,
+        state: &State<'p>,
+        level: Level,
+        of: ValueType,
+        i: &'p Initializer,
+    ) -> Result<Next<'p>, Halt>
         ensures { let n = numbers_of self.now.program.now in Ran (next_of n) (doing (tasks.making (level_of level) tasks.full_expression (object_type n of) None (init_of n i.now)) (tasks.place_of_object ∷ []) (state_of state.now)) result (state_of state.now) }
     {
         let of = self.object_type(of);
@@ -70,7 +106,12 @@ impl<'p> Machine<'p> {
     }
 
     /// An expression is evaluated.
-    pub(crate) fn expression(&self, state: &mut State<'p>, level: Level, e: &'p Expression) -> Result<Next<'p>, Halt>
+    pub(crate) fn expression(
+        &self,
+        state: &mut State<'p>,
+        level: Level,
+        e: &'p Expression,
+    ) -> Result<Next<'p>, Halt>
         ensures { let p = self.now.program.now in let n = numbers_of p in Steps p (step_expression (program_of p) (level_of level) (expr_of n e.now)) result state.old state.new }
     {
         match e {
@@ -123,21 +164,42 @@ impl<'p> Machine<'p> {
     }
 
     /// A scalar result object is made, and a function is called with it.
-    fn call_with_object(&self, state: &mut State<'p>, level: Level, function: u32, a: &'p [Argument]) -> Result<Next<'p>, Halt>
+    fn call_with_object(
+        &self,
+        state: &mut State<'p>,
+        level: Level,
+        function: u32,
+        a: &'p [Argument],
+    ) -> Result<Next<'p>, Halt>
         ensures { let p = self.now.program.now in let n = numbers_of p in Steps p (object_call (level_of level) function (args_of n a.now)) result state.old state.new }
     {
         let object = state.make(self.alloc, 1)?;
         let task = Task::Call(CallTask::CallInto(level, function, a, object));
-        self.under(state, task, Waiting::Argument(ArgumentFrame::EndResult(object)))
+        self.under(
+            state,
+            task,
+            Waiting::Argument(ArgumentFrame::EndResult(object)),
+        )
     }
 
     /// A function is called, by what it gives.
-    fn call(&self, state: &mut State<'p>, level: Level, kind: ResultKind, function: u32, a: &'p [Argument]) -> Result<Next<'p>, Halt>
+    fn call(
+        &self,
+        state: &mut State<'p>,
+        level: Level,
+        kind: ResultKind,
+        function: u32,
+        a: &'p [Argument],
+    ) -> Result<Next<'p>, Halt>
         ensures { let p = self.now.program.now in let n = numbers_of p in Steps p (step_call (program_of p) (level_of level) (result_kind_of kind) function (args_of n a.now)) result state.old state.new }
     {
         match kind {
             ResultKind::ScalarObject => self.call_with_object(state, level, function, a),
-            ResultKind::Void | ResultKind::ScalarValue | ResultKind::ClassObject(_) | ResultKind::Reference | ResultKind::ExitStatus => {
+            ResultKind::Void
+            | ResultKind::ScalarValue
+            | ResultKind::ClassObject(_)
+            | ResultKind::Reference
+            | ResultKind::ExitStatus => {
                 let task = Task::Call(CallTask::CallOf(level, function, None, a, None));
                 self.doing(state, task)
             }
@@ -145,7 +207,13 @@ impl<'p> Machine<'p> {
     }
 
     /// A function of the program is called.
-    fn called(&self, state: &mut State<'p>, level: Level, function: u32, a: &'p [Argument]) -> Result<Next<'p>, Halt>
+    fn called(
+        &self,
+        state: &mut State<'p>,
+        level: Level,
+        function: u32,
+        a: &'p [Argument],
+    ) -> Result<Next<'p>, Halt>
         ensures { let p = self.now.program.now in let n = numbers_of p in Steps p (function_called (program_of p) (level_of level) function (args_of n a.now)) result state.old state.new }
     {
         match self.function_at(function) {

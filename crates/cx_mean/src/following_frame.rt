@@ -23,7 +23,12 @@ impl<'p> Machine<'p> {
     }
 
     /// What is given is replaced, or another task follows.
-    pub(crate) fn following_given(&self, state: &State<'p>, frame: FollowingFrame<'p>, given: Given<'p>) -> Result<Next<'p>, Halt>
+    pub(crate) fn following_given(
+        &self,
+        state: &State<'p>,
+        frame: FollowingFrame<'p>,
+        given: Given<'p>,
+    ) -> Result<Next<'p>, Halt>
         ensures { let p = self.now.program.now in let n = numbers_of p in Steps p (step_given (program_of p) (following_frame_of n frame.entry) (given_of given.entry)) result state.now state.now }
     {
         match frame {

@@ -78,7 +78,10 @@ pub(crate) fn exception_object<'p>(state: &State<'p>) -> Result<Value<'p>, Halt>
     ensures { Ran value_of (exception_object_of (state_of state.now)) result (state_of state.now) }
 {
     match state.held.first() {
-        Some(e) => Ok(Value::Address(Address { object: e.object, leaf: 0 })),
+        Some(e) => Ok(Value::Address(Address {
+            object: e.object,
+            leaf: 0,
+        })),
         None => Err(undefined(Kind::Mixed)),
     }
 }

@@ -14,7 +14,7 @@ ghost use Rattle.cx_mean.specs.Steps.{Steps};
 
 use crate::machine::Machine;
 use crate::task::{Level, ObjectTask, Task};
-use crate::waiting::{Given, Left, LeavingFrame, Next, Waiting};
+use crate::waiting::{Given, LeavingFrame, Left, Next, Waiting};
 use cx_code::Ending;
 use cx_plain_state::{Answer, Exception, Frame, Halt, Living, State};
 use std::mem;
@@ -56,7 +56,14 @@ impl<'p> Machine<'p> {
     {
         let variables = Vec::from_slice(self.alloc, &state.frame.variables)?;
         let result = state.frame.result;
-        let outer = mem::replace(&mut state.frame, Frame { unit, variables, result });
+        let outer = mem::replace(
+            &mut state.frame,
+            Frame {
+                unit,
+                variables,
+                result,
+            },
+        );
         Ok(Waiting::Leaving(LeavingFrame::Within(outer)))
     }
 }
@@ -91,7 +98,13 @@ impl<'p> Machine<'p> {
     }
 
     /// Objects are ended under one more frame.
-    fn ending_under(&self, state: &State<'p>, level: Level, living: &[Living], frame: LeavingFrame<'p>) -> Result<Next<'p>, Halt>
+    fn ending_under(
+        &self,
+        state: &State<'p>,
+        level: Level,
+        living: &[Living],
+        frame: LeavingFrame<'p>,
+    ) -> Result<Next<'p>, Halt>
         ensures { Ran (next_of (numbers_of self.now.program.now)) (doing (tasks.ending_each (level_of level) (map living_of living.now)) (leaving_frame_of frame.entry ∷ []) (state_of state.now)) result (state_of state.now) }
     {
         let living = Vec::from_slice(self.alloc, living)?;
@@ -101,7 +114,13 @@ impl<'p> Machine<'p> {
 
     /// A scope is left: its objects are ended.
     #[tactic(auto, unfolding(cx_plain_state::specs::Seen::state_of, cx_core::specs::Outcome::either, cx_core::specs::Outcome::current_living))]
-    fn leave_scope(&self, state: &State<'p>, level: Level, outer: Vec<Living>, left: Left<'p>) -> Result<Next<'p>, Halt>
+    fn leave_scope(
+        &self,
+        state: &State<'p>,
+        level: Level,
+        outer: Vec<Living>,
+        left: Left<'p>,
+    ) -> Result<Next<'p>, Halt>
         ensures { Ran (next_of (numbers_of self.now.program.now)) (scope_left (level_of level) (livings_of outer) (left_of left.entry) (state_of state.now)) result (state_of state.now) }
     {
         let frame = LeavingFrame::RestoreLiving(outer, left);
@@ -110,7 +129,13 @@ impl<'p> Machine<'p> {
 
     /// A full-expression is left: its temporaries are ended.
     #[tactic(auto, unfolding(cx_plain_state::specs::Seen::state_of, cx_core::specs::Outcome::either, cx_core::specs::Outcome::current_temporaries))]
-    fn leave_full_expression(&self, state: &State<'p>, level: Level, outer: Vec<Living>, left: Left<'p>) -> Result<Next<'p>, Halt>
+    fn leave_full_expression(
+        &self,
+        state: &State<'p>,
+        level: Level,
+        outer: Vec<Living>,
+        left: Left<'p>,
+    ) -> Result<Next<'p>, Halt>
         ensures { Ran (next_of (numbers_of self.now.program.now)) (full_expression_left (level_of level) (livings_of outer) (left_of left.entry) (state_of state.now)) result (state_of state.now) }
     {
         let frame = LeavingFrame::RestoreTemporaries(outer, left);
@@ -119,7 +144,13 @@ impl<'p> Machine<'p> {
 
     /// A constructor is left by an exception: the fields that it has constructed are ended.
     #[tactic(auto, unfolding(cx_plain_state::specs::Seen::state_of, cx_core::specs::Outcome::either, cx_core::specs::Outcome::current_living))]
-    fn undo_fields(&self, state: &State<'p>, level: Level, outer: Vec<Living>, e: Exception) -> Result<Next<'p>, Halt>
+    fn undo_fields(
+        &self,
+        state: &State<'p>,
+        level: Level,
+        outer: Vec<Living>,
+        e: Exception,
+    ) -> Result<Next<'p>, Halt>
         ensures { Ran (next_of (numbers_of self.now.program.now)) (fields_undone (level_of level) (livings_of outer) (exception_of e) (state_of state.now)) result (state_of state.now) }
     {
         let frame = LeavingFrame::UndoneFields(outer, e);
@@ -127,7 +158,14 @@ impl<'p> Machine<'p> {
     }
 
     /// An exception that a handler no longer holds ends, unless it is among others.
-    fn release(&self, state: &State<'p>, level: Level, e: Exception, among: bool, left: Left<'p>) -> Result<Next<'p>, Halt>
+    fn release(
+        &self,
+        state: &State<'p>,
+        level: Level,
+        e: Exception,
+        among: bool,
+        left: Left<'p>,
+    ) -> Result<Next<'p>, Halt>
         ensures { Ran (next_of (numbers_of self.now.program.now)) (released (level_of level) (exception_of e) among (left_of left.entry) (state_of state.now)) result (state_of state.now) }
     {
         if among {
@@ -138,7 +176,15 @@ impl<'p> Machine<'p> {
     }
 
     /// A handler is left: others hold exceptions from here on.
-    fn leave_handler(&self, state: &mut State<'p>, level: Level, e: Exception, others: Vec<Exception>, among: bool, left: Left<'p>) -> Result<Next<'p>, Halt>
+    fn leave_handler(
+        &self,
+        state: &mut State<'p>,
+        level: Level,
+        e: Exception,
+        others: Vec<Exception>,
+        among: bool,
+        left: Left<'p>,
+    ) -> Result<Next<'p>, Halt>
         ensures { Ran (next_of (numbers_of self.now.program.now)) (handler_left (level_of level) (exception_of e) (exceptions_of others) among (left_of left.entry) (state_of state.old)) result (state_of state.new) }
     {
         drop(state.replace_held(others));
@@ -146,12 +192,27 @@ impl<'p> Machine<'p> {
     }
 
     /// What is left is given something.
-    pub(crate) fn leaving_given(&self, state: &mut State<'p>, frame: LeavingFrame<'p>, given: Given<'p>) -> Result<Next<'p>, Halt>
+    pub(crate) fn leaving_given(
+        &self,
+        state: &mut State<'p>,
+        frame: LeavingFrame<'p>,
+        given: Given<'p>,
+    ) -> Result<Next<'p>, Halt>
         ensures { let p = self.now.program.now in let n = numbers_of p in Steps p (step_given (program_of p) (leaving_frame_of frame.entry) (given_of given.entry)) result state.old state.new }
     {
         match frame {
-            LeavingFrame::LeavingScope(level, outer) => self.leave_scope(state, level, outer, Left::Given(given)),
-            LeavingFrame::LeavingFull(level, outer) => self.leave_full_expression(state, level, outer, Left::Given(given)),
+            LeavingFrame::LeavingScope(level, outer) => self.leave_scope(
+                state,
+                level,
+                outer,
+                Left::Given(given),
+            ),
+            LeavingFrame::LeavingFull(level, outer) => self.leave_full_expression(
+                state,
+                level,
+                outer,
+                Left::Given(given),
+            ),
             LeavingFrame::RestoreLiving(outer, left) => {
                 drop(state.replace_living(outer));
                 self.passed(state, left)
@@ -182,12 +243,27 @@ impl<'p> Machine<'p> {
     }
 
     /// What is left is left by an exception.
-    pub(crate) fn leaving_thrown(&self, state: &mut State<'p>, frame: LeavingFrame<'p>, e: Exception) -> Result<Next<'p>, Halt>
+    pub(crate) fn leaving_thrown(
+        &self,
+        state: &mut State<'p>,
+        frame: LeavingFrame<'p>,
+        e: Exception,
+    ) -> Result<Next<'p>, Halt>
         ensures { let p = self.now.program.now in let n = numbers_of p in Steps p (step_thrown (program_of p) (leaving_frame_of frame.entry) (exception_of e)) result state.old state.new }
     {
         match frame {
-            LeavingFrame::LeavingScope(level, outer) => self.leave_scope(state, level, outer, Left::Thrown(e)),
-            LeavingFrame::LeavingFull(level, outer) => self.leave_full_expression(state, level, outer, Left::Thrown(e)),
+            LeavingFrame::LeavingScope(level, outer) => self.leave_scope(
+                state,
+                level,
+                outer,
+                Left::Thrown(e),
+            ),
+            LeavingFrame::LeavingFull(level, outer) => self.leave_full_expression(
+                state,
+                level,
+                outer,
+                Left::Thrown(e),
+            ),
             LeavingFrame::Constructing(level, outer) => self.undo_fields(state, level, outer, e),
             LeavingFrame::UndoneFields(outer, _) => {
                 drop(state.replace_living(outer));

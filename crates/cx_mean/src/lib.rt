@@ -3,20 +3,23 @@
 #![tactic(auto)]
 
 mod acting;
-mod asked;
 mod argument_frame;
+mod asked;
 mod begin;
 mod call_frame;
 mod calls;
 mod checks;
+mod ending;
 mod expression;
 mod field;
-mod frames;
 mod following_frame;
+mod frames;
+mod full_expression;
 mod handling;
 mod leaf;
 mod leaving;
 mod lookup;
+mod loops;
 mod machine;
 mod object;
 mod operand;
@@ -28,6 +31,7 @@ mod run;
 mod statement;
 mod step;
 mod task;
+mod types;
 mod waiting;
 mod zero;
 

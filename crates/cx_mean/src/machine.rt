@@ -23,10 +23,14 @@ pub(crate) struct Machine<'p> {
 
 impl<'p> Machine<'p> {
     /// A task is done under one more frame.
-    pub(crate) fn under(&self, state: &State<'p>, task: Task<'p>, frame: Waiting<'p>) -> Result<Next<'p>, Halt>
+    pub(crate) fn under(
+        &self,
+        state: &State<'p>,
+        task: Task<'p>,
+        frame: Waiting<'p>,
+    ) -> Result<Next<'p>, Halt>
         ensures { let n = numbers_of self.now.program.now in Ran (next_of n) (doing (task_of n task.entry) (waiting_of n frame.entry ∷ []) (state_of state.now)) result (state_of state.now) }
     {
-
         Ok(Next::Go(task, vec![in self.alloc; frame]?))
     }
 
@@ -34,19 +38,31 @@ impl<'p> Machine<'p> {
     pub(crate) fn doing(&self, state: &State<'p>, task: Task<'p>) -> Result<Next<'p>, Halt>
         ensures { let n = numbers_of self.now.program.now in Ran (next_of n) (doing (task_of n task.entry) [] (state_of state.now)) result (state_of state.now) }
     {
-
         Ok(Next::Go(task, Vec::new(self.alloc)))
     }
 
     /// A task is done under two more frames.
-    pub(crate) fn under_two(&self, state: &State<'p>, task: Task<'p>, inner: Waiting<'p>, outer: Waiting<'p>) -> Result<Next<'p>, Halt>
+    pub(crate) fn under_two(
+        &self,
+        state: &State<'p>,
+        task: Task<'p>,
+        inner: Waiting<'p>,
+        outer: Waiting<'p>,
+    ) -> Result<Next<'p>, Halt>
         ensures { let n = numbers_of self.now.program.now in Ran (next_of n) (doing (task_of n task.entry) (waiting_of n inner.entry ∷ waiting_of n outer.entry ∷ []) (state_of state.now)) result (state_of state.now) }
     {
         Ok(Next::Go(task, vec![in self.alloc; outer, inner]?))
     }
 
     /// A task is done under three more frames.
-    pub(crate) fn under_three(&self, state: &State<'p>, task: Task<'p>, inner: Waiting<'p>, middle: Waiting<'p>, outer: Waiting<'p>) -> Result<Next<'p>, Halt>
+    pub(crate) fn under_three(
+        &self,
+        state: &State<'p>,
+        task: Task<'p>,
+        inner: Waiting<'p>,
+        middle: Waiting<'p>,
+        outer: Waiting<'p>,
+    ) -> Result<Next<'p>, Halt>
         ensures { let n = numbers_of self.now.program.now in Ran (next_of n) (doing (task_of n task.entry) (waiting_of n inner.entry ∷ waiting_of n middle.entry ∷ waiting_of n outer.entry ∷ []) (state_of state.now)) result (state_of state.now) }
     {
         Ok(Next::Go(task, vec![in self.alloc; outer, middle, inner]?))

@@ -34,7 +34,12 @@ impl<'p> Machine<'p> {
     }
 
     /// An operand is evaluated, read and converted.
-    pub(crate) fn used(&self, state: &State<'p>, level: Level, a: &'p Operand) -> Result<Next<'p>, Halt>
+    pub(crate) fn used(
+        &self,
+        state: &State<'p>,
+        level: Level,
+        a: &'p Operand,
+    ) -> Result<Next<'p>, Halt>
         ensures { let p = self.now.program.now in let n = numbers_of p in Steps p (step_used (program_of p) (level_of level) (operand_of n a.now)) result state.now state.now }
     {
         let read = Operation::Read(self.type_read(a.read));
@@ -46,7 +51,14 @@ impl<'p> Machine<'p> {
     }
 
     /// An object of a class is zero-initialised, and then initialised.
-    fn zero_first(&self, state: &mut State<'p>, level: Level, class: u32, i: &'p Initializer, place: Address) -> Result<Next<'p>, Halt>
+    fn zero_first(
+        &self,
+        state: &mut State<'p>,
+        level: Level,
+        class: u32,
+        i: &'p Initializer,
+        place: Address,
+    ) -> Result<Next<'p>, Halt>
         ensures { let p = self.now.program.now in let n = numbers_of p in Steps p (zero_first_of (program_of p) (level_of level) class (init_of n i.now) (address_of place)) result state.old state.new }
     {
         self.zero_object(state, class, place)?;
@@ -58,11 +70,21 @@ impl<'p> Machine<'p> {
     fn call_discarded(&self, state: &State<'p>, task: CallTask<'p>) -> Result<Next<'p>, Halt>
         ensures { let n = numbers_of self.now.program.now in Ran (next_of n) (doing (call_task_of n task.entry) (tasks.discard ∷ []) (state_of state.now)) result (state_of state.now) }
     {
-        self.under(state, Task::Call(task), Waiting::Following(FollowingFrame::Discard))
+        self.under(
+            state,
+            Task::Call(task),
+            Waiting::Following(FollowingFrame::Discard),
+        )
     }
 
     /// An object at a place is initialised.
-    pub(crate) fn initialise(&self, state: &mut State<'p>, level: Level, i: &'p Initializer, place: Address) -> Result<Next<'p>, Halt>
+    pub(crate) fn initialise(
+        &self,
+        state: &mut State<'p>,
+        level: Level,
+        i: &'p Initializer,
+        place: Address,
+    ) -> Result<Next<'p>, Halt>
         ensures { let p = self.now.program.now in let n = numbers_of p in Steps p (step_initialise (program_of p) (level_of level) (init_of n i.now) (address_of place)) result state.old state.new }
     {
         match i {
@@ -83,7 +105,13 @@ impl<'p> Machine<'p> {
     }
 
     /// An argument is evaluated, then the rest of them.
-    fn argument(&self, state: &State<'p>, level: Level, first: &'p Argument, rest: &'p [Argument]) -> Result<Next<'p>, Halt>
+    fn argument(
+        &self,
+        state: &State<'p>,
+        level: Level,
+        first: &'p Argument,
+        rest: &'p [Argument],
+    ) -> Result<Next<'p>, Halt>
         ensures { let p = self.now.program.now in let n = numbers_of p in Steps p (step_arguments (program_of p) (level_of level) (argument_of n first.now (args_of n rest.now))) result state.now state.now }
     {
         match first {
@@ -94,7 +122,13 @@ impl<'p> Machine<'p> {
             }
             Argument::ByValue(of, i) => {
                 let of = self.object_type(*of);
-                let task = Task::Object(ObjectTask::Making(level, Keeper::InnermostScope, of, None, i));
+                let task = Task::Object(ObjectTask::Making(
+                    level,
+                    Keeper::InnermostScope,
+                    of,
+                    None,
+                    i,
+                ));
                 let frame = ArgumentFrame::ObjectArgument(level, rest);
                 self.under(state, task, Waiting::Argument(frame))
             }
@@ -102,7 +136,12 @@ impl<'p> Machine<'p> {
     }
 
     /// Arguments are evaluated in order.
-    pub(crate) fn arguments(&self, state: &State<'p>, level: Level, a: &'p [Argument]) -> Result<Next<'p>, Halt>
+    pub(crate) fn arguments(
+        &self,
+        state: &State<'p>,
+        level: Level,
+        a: &'p [Argument],
+    ) -> Result<Next<'p>, Halt>
         ensures { let p = self.now.program.now in let n = numbers_of p in Steps p (step_arguments (program_of p) (level_of level) (args_of n a.now)) result state.now state.now }
     {
         match a.split_first() {
@@ -113,22 +152,40 @@ impl<'p> Machine<'p> {
 
     /// An operand is evaluated as a full-expression of its own.
     #[tactic(auto, unfolding(cx_core::specs::Outcome::either, cx_core::specs::Outcome::current_temporaries, cx_core::specs::Outcome::set_temporaries))]
-    fn evaluated(&self, state: &mut State<'p>, level: Level, a: &'p Operand) -> Result<Next<'p>, Halt>
+    fn evaluated(
+        &self,
+        state: &mut State<'p>,
+        level: Level,
+        a: &'p Operand,
+    ) -> Result<Next<'p>, Halt>
         ensures { let p = self.now.program.now in let n = numbers_of p in Steps p (step_task (program_of p) (tasks.evaluated (level_of level) (operand_of n a.now))) result state.old state.new }
     {
         let full = self.enter_full_expression(state, level);
-        self.under(state, Task::Expression(ExpressionTask::Used(level, a)), full)
+        self.under(
+            state,
+            Task::Expression(ExpressionTask::Used(level, a)),
+            full,
+        )
     }
 
     /// An expression, operand, initialiser or list of arguments is evaluated.
-    pub(crate) fn expression_task(&self, state: &mut State<'p>, task: ExpressionTask<'p>) -> Result<Next<'p>, Halt>
+    pub(crate) fn expression_task(
+        &self,
+        state: &mut State<'p>,
+        task: ExpressionTask<'p>,
+    ) -> Result<Next<'p>, Halt>
         ensures { let p = self.now.program.now in let n = numbers_of p in Steps p (step_task (program_of p) (expression_task_of n task.entry)) result state.old state.new }
     {
         match task {
             ExpressionTask::Expression(level, e) => self.expression(state, level, e),
             ExpressionTask::Used(level, a) => self.used(state, level, a),
             ExpressionTask::Evaluated(level, a) => self.evaluated(state, level, a),
-            ExpressionTask::UsedTruth(level, a) => self.used_under(state, level, a, OperandFrame::ToTruth),
+            ExpressionTask::UsedTruth(level, a) => self.used_under(
+                state,
+                level,
+                a,
+                OperandFrame::ToTruth,
+            ),
             ExpressionTask::EvaluatedTruth(level, a) => {
                 let task = Task::Expression(ExpressionTask::Evaluated(level, a));
                 self.under(state, task, Waiting::Operand(OperandFrame::ToTruth))

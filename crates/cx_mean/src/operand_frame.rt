@@ -37,7 +37,14 @@ pub(crate) fn object_place<'p>(object: u64) -> Value<'p>
 #[tactic(auto, unfolding(cx_core::specs::Outcome::either, cx_core::specs::Outcome::gives, cx_core::specs::Outcome::ends, cx_core::specs::Outcome::throws))]
 impl<'p> Machine<'p> {
     /// A truth decides an operator, or its right operand does.
-    fn decide(&self, state: &mut State<'p>, level: Level, decides: bool, b: &'p Operand, x: bool) -> Result<Next<'p>, Halt>
+    fn decide(
+        &self,
+        state: &mut State<'p>,
+        level: Level,
+        decides: bool,
+        b: &'p Operand,
+        x: bool,
+    ) -> Result<Next<'p>, Halt>
         ensures { let p = self.now.program.now in let n = numbers_of p in Steps p (decided (level_of level) decides (operand_of n b.now) x) result state.old state.new }
     {
         state.spend()?;
@@ -48,7 +55,14 @@ impl<'p> Machine<'p> {
     }
 
     /// A truth chooses an operand.
-    fn choose(&self, state: &mut State<'p>, level: Level, b: &'p Operand, c: &'p Operand, x: bool) -> Result<Next<'p>, Halt>
+    fn choose(
+        &self,
+        state: &mut State<'p>,
+        level: Level,
+        b: &'p Operand,
+        c: &'p Operand,
+        x: bool,
+    ) -> Result<Next<'p>, Halt>
         ensures { let p = self.now.program.now in let n = numbers_of p in Steps p (chosen (level_of level) (operand_of n b.now) (operand_of n c.now) x) result state.old state.new }
     {
         state.spend()?;
@@ -65,7 +79,12 @@ impl<'p> Machine<'p> {
     }
 
     /// What waits for an operand is given a value.
-    fn operand_value(&self, state: &mut State<'p>, frame: OperandFrame<'p>, v: Value<'p>) -> Result<Next<'p>, Halt>
+    fn operand_value(
+        &self,
+        state: &mut State<'p>,
+        frame: OperandFrame<'p>,
+        v: Value<'p>,
+    ) -> Result<Next<'p>, Halt>
         ensures { let p = self.now.program.now in let n = numbers_of p in Steps p (step_given (program_of p) (operand_frame_of n frame.entry) (tasks.value (value_of v.entry))) result state.old state.new }
     {
         match frame {
@@ -90,7 +109,12 @@ impl<'p> Machine<'p> {
     }
 
     /// What waits for an operand is given a truth.
-    fn operand_truth(&self, state: &mut State<'p>, frame: OperandFrame<'p>, x: bool) -> Result<Next<'p>, Halt>
+    fn operand_truth(
+        &self,
+        state: &mut State<'p>,
+        frame: OperandFrame<'p>,
+        x: bool,
+    ) -> Result<Next<'p>, Halt>
         ensures { let p = self.now.program.now in let n = numbers_of p in Steps p (step_given (program_of p) (operand_frame_of n frame.entry) (tasks.truth x)) result state.old state.new }
     {
         match frame {
@@ -107,7 +131,12 @@ impl<'p> Machine<'p> {
     }
 
     /// What waits for an operand is given the number of an object.
-    fn operand_object(&self, state: &State<'p>, frame: OperandFrame<'p>, object: u64) -> Result<Next<'p>, Halt>
+    fn operand_object(
+        &self,
+        state: &State<'p>,
+        frame: OperandFrame<'p>,
+        object: u64,
+    ) -> Result<Next<'p>, Halt>
         ensures { let p = self.now.program.now in let n = numbers_of p in Steps p (step_given (program_of p) (operand_frame_of n frame.entry) (tasks.number object)) result state.now state.now }
     {
         match frame {
@@ -124,7 +153,12 @@ impl<'p> Machine<'p> {
     }
 
     /// What waits for an operand is given something.
-    pub(crate) fn operand_given(&self, state: &mut State<'p>, frame: OperandFrame<'p>, given: Given<'p>) -> Result<Next<'p>, Halt>
+    pub(crate) fn operand_given(
+        &self,
+        state: &mut State<'p>,
+        frame: OperandFrame<'p>,
+        given: Given<'p>,
+    ) -> Result<Next<'p>, Halt>
         ensures { let p = self.now.program.now in let n = numbers_of p in Steps p (step_given (program_of p) (operand_frame_of n frame.entry) (given_of given.entry)) result state.old state.new }
     {
         match given {

@@ -28,7 +28,12 @@ pub(crate) fn place_in(a: Address, leaf: u32) -> Result<Address, Halt>
 
 /// An operator with one operand that computes a number.
 #[tactic(auto, unfolding(cx_core::specs::Outcome::either))]
-fn unary<'p>(state: &mut State<'p>, operator: UnaryOperator, of: IntegerType, x: Value<'p>) -> Result<Value<'p>, Halt>
+fn unary<'p>(
+    state: &mut State<'p>,
+    operator: UnaryOperator,
+    of: IntegerType,
+    x: Value<'p>,
+) -> Result<Value<'p>, Halt>
     ensures { Ran value_of (unary_applied operator of (value_of x.entry) (state_of state.old)) result (state_of state.new) }
 {
     state.spend()?;
@@ -37,7 +42,13 @@ fn unary<'p>(state: &mut State<'p>, operator: UnaryOperator, of: IntegerType, x:
 
 /// An operator with two operands.
 #[tactic(auto, unfolding(cx_core::specs::Outcome::either))]
-fn binary<'p>(state: &mut State<'p>, operator: BinaryOperator, of: IntegerType, x: Value<'p>, y: Value<'p>) -> Result<Value<'p>, Halt>
+fn binary<'p>(
+    state: &mut State<'p>,
+    operator: BinaryOperator,
+    of: IntegerType,
+    x: Value<'p>,
+    y: Value<'p>,
+) -> Result<Value<'p>, Halt>
     ensures { Ran value_of (binary_applied operator of (value_of x.entry) (value_of y.entry) (state_of state.old)) result (state_of state.new) }
 {
     state.spend()?;
@@ -65,7 +76,14 @@ fn assign<'p>(state: &mut State<'p>, value: Value<'p>, place: Value<'p>) -> Resu
 
 /// A compound assignment [expr.ass].
 #[tactic(auto, unfolding(cx_core::specs::Outcome::either, cx_core::specs::Outcome::gives))]
-fn compound_assign<'p>(state: &mut State<'p>, operator: BinaryOperator, computed: IntegerType, kept: IntegerType, value: Value<'p>, place: Value<'p>) -> Result<Value<'p>, Halt>
+fn compound_assign<'p>(
+    state: &mut State<'p>,
+    operator: BinaryOperator,
+    computed: IntegerType,
+    kept: IntegerType,
+    value: Value<'p>,
+    place: Value<'p>,
+) -> Result<Value<'p>, Halt>
     ensures { Ran value_of (compound_assign_applied operator computed kept (value_of value.entry) (value_of place.entry) (state_of state.old)) result (state_of state.new) }
 {
     state.spend()?;
@@ -75,7 +93,12 @@ fn compound_assign<'p>(state: &mut State<'p>, operator: BinaryOperator, computed
 
 /// `++` or `--` before its operand [expr.pre.incr].
 #[tactic(auto, unfolding(cx_core::specs::Outcome::either, cx_core::specs::Outcome::gives))]
-fn prefix_step<'p>(state: &mut State<'p>, operator: BinaryOperator, of: IntegerType, place: Value<'p>) -> Result<Value<'p>, Halt>
+fn prefix_step<'p>(
+    state: &mut State<'p>,
+    operator: BinaryOperator,
+    of: IntegerType,
+    place: Value<'p>,
+) -> Result<Value<'p>, Halt>
     ensures { Ran value_of (prefix_applied operator of (value_of place.entry) (state_of state.old)) result (state_of state.new) }
 {
     state.spend()?;
@@ -85,7 +108,12 @@ fn prefix_step<'p>(state: &mut State<'p>, operator: BinaryOperator, of: IntegerT
 
 /// `++` or `--` after its operand [expr.post.incr].
 #[tactic(auto, unfolding(cx_core::specs::Outcome::either))]
-fn postfix_step<'p>(state: &mut State<'p>, operator: BinaryOperator, of: IntegerType, place: Value<'p>) -> Result<Value<'p>, Halt>
+fn postfix_step<'p>(
+    state: &mut State<'p>,
+    operator: BinaryOperator,
+    of: IntegerType,
+    place: Value<'p>,
+) -> Result<Value<'p>, Halt>
     ensures { Ran value_of (postfix_applied operator of (value_of place.entry) (state_of state.old)) result (state_of state.new) }
 {
     state.spend()?;
@@ -116,7 +144,11 @@ fn member<'p>(state: &mut State<'p>, leaf: u32, place: Value<'p>) -> Result<Valu
 
 /// The result is stored in a result object.
 #[tactic(auto, unfolding(cx_core::specs::Outcome::either, cx_core::specs::Outcome::gives))]
-fn result_in_place<'p>(state: &mut State<'p>, place: Value<'p>, value: Value<'p>) -> Result<Value<'p>, Halt>
+fn result_in_place<'p>(
+    state: &mut State<'p>,
+    place: Value<'p>,
+    value: Value<'p>,
+) -> Result<Value<'p>, Halt>
     ensures { Ran value_of (result_in_place (value_of place.entry) (value_of value.entry) (state_of state.old)) result (state_of state.new) }
 {
     let a = state.place_of(place)?;
@@ -138,7 +170,12 @@ impl<'p> Machine<'p> {
     }
 
     /// What an operation makes of the value of its operand.
-    pub(crate) fn applied(&self, state: &mut State<'p>, operation: Operation<'p>, value: Value<'p>) -> Result<Value<'p>, Halt>
+    pub(crate) fn applied(
+        &self,
+        state: &mut State<'p>,
+        operation: Operation<'p>,
+        value: Value<'p>,
+    ) -> Result<Value<'p>, Halt>
         ensures { Ran value_of (applied (program_of self.now.program.now) (operation_of operation.entry) (value_of value.entry) (state_of state.old)) result (state_of state.new) }
     {
         match operation {

@@ -67,7 +67,10 @@ impl<T: Drop> From<std::alloc::AllocFailed<T>> for Want {
 
 /// What a task or frame comes to is placed under the frames that wait.
 #[tactic(auto, unfolding(cx_core::specs::Outcome::gives))]
-fn settle<'p>(stack: &mut Vec<Waiting<'p>>, next: Result<Next<'p>, Halt>) -> Result<Standing<'p>, Stop<'p>>
+fn settle<'p>(
+    stack: &mut Vec<Waiting<'p>>,
+    next: Result<Next<'p>, Halt>,
+) -> Result<Standing<'p>, Stop<'p>>
     ensures { (n : Numbers) (o : Outcome tasks.Next) (s : outcome.State) → Ran (next_of n) o next.entry s → Stands n (settled_from (frames_of n stack.old.items) o) result stack.new.items s }
 {
     match next {
@@ -111,7 +114,12 @@ fn conclude(left: Left<'_>) -> Result<Answer, Want>
 #[tactic(auto, unfolding(cx_core::specs::Outcome::either, cx_core::specs::Outcome::gives))]
 impl<'p> Machine<'p> {
     /// The innermost frame takes what a part has given.
-    fn pass_given(&self, state: &mut State<'p>, stack: &mut Vec<Waiting<'p>>, given: Given<'p>) -> Result<Standing<'p>, Stop<'p>>
+    fn pass_given(
+        &self,
+        state: &mut State<'p>,
+        stack: &mut Vec<Waiting<'p>>,
+        given: Given<'p>,
+    ) -> Result<Standing<'p>, Stop<'p>>
         ensures { let p = self.now.program.now in let n = numbers_of p in Stands n (step_config (program_of p) (passing (tasks.given (given_of given.entry)) (frames_of n stack.old.items)) (state_of state.old)) result stack.new.items (state_of state.new) }
     {
         match stack.pop() {
@@ -124,7 +132,12 @@ impl<'p> Machine<'p> {
     }
 
     /// An exception is thrown through the innermost frame.
-    fn pass_thrown(&self, state: &mut State<'p>, stack: &mut Vec<Waiting<'p>>, e: Exception) -> Result<Standing<'p>, Stop<'p>>
+    fn pass_thrown(
+        &self,
+        state: &mut State<'p>,
+        stack: &mut Vec<Waiting<'p>>,
+        e: Exception,
+    ) -> Result<Standing<'p>, Stop<'p>>
         ensures { let p = self.now.program.now in let n = numbers_of p in Stands n (step_config (program_of p) (passing (tasks.thrown (exception_of e)) (frames_of n stack.old.items)) (state_of state.old)) result stack.new.items (state_of state.new) }
     {
         match stack.pop() {
@@ -137,7 +150,12 @@ impl<'p> Machine<'p> {
     }
 
     /// A step is taken.
-    fn step(&self, state: &mut State<'p>, stack: &mut Vec<Waiting<'p>>, at: Standing<'p>) -> Result<Standing<'p>, Stop<'p>>
+    fn step(
+        &self,
+        state: &mut State<'p>,
+        stack: &mut Vec<Waiting<'p>>,
+        at: Standing<'p>,
+    ) -> Result<Standing<'p>, Stop<'p>>
         ensures { let p = self.now.program.now in let n = numbers_of p in Stands n (step_config (program_of p) (config_of n at.entry stack.old.items) (state_of state.old)) result stack.new.items (state_of state.new) }
     {
         match at {
@@ -155,7 +173,12 @@ impl<'p> Machine<'p> {
         ensures { let p = self.now.program.now in config_of (numbers_of p) result [] ≡ first (program_of p) }
     {
         let arguments = Vec::new(self.alloc);
-        let call = Call { function: self.program.main, unit: 0, arguments, result: None };
+        let call = Call {
+            function: self.program.main,
+            unit: 0,
+            arguments,
+            result: None,
+        };
         Standing::Task(Task::Call(CallTask::Counted(4096, call)))
     }
 
@@ -183,7 +206,13 @@ impl<'p> Machine<'p> {
 /// What a program means: its events and its answer. `begins` are the evaluations of assertions that are told, in order;
 /// `input` the bytes that it may read; no more than `budget` units are spent. An error says only that memory, a number
 /// or the steps were wanting. (This project's own.)
-pub fn mean_of<'p>(alloc: Global, program: &'p Program, begins: &'p [Evaluation], input: &'p [u8], budget: u64) -> Result<Meaning<'p>, Want>
+pub fn mean_of<'p>(
+    alloc: Global,
+    program: &'p Program,
+    begins: &'p [Evaluation],
+    input: &'p [u8],
+    budget: u64,
+) -> Result<Meaning<'p>, Want>
     ensures { IfOk result (λ m. meaning_of m ≡ mean (program_of program.now) (map evaluation_of begins.now) input.now budget) }
 {
     let machine = Machine { alloc, program };

@@ -8,7 +8,7 @@ ghost use Rattle.cx_mean.specs.Steps.{Steps};
 
 use crate::machine::Machine;
 use crate::task::{Call, Check, Task};
-use crate::waiting::{Given, Waiting, Next};
+use crate::waiting::{Given, Next, Waiting};
 use cx_plain_state::{Exception, Halt, State};
 
 #[tactic(auto, unfolding(cx_core::specs::Outcome::either, cx_core::specs::Outcome::gives, cx_core::specs::Outcome::ends, cx_core::specs::Outcome::throws))]
@@ -27,7 +27,12 @@ impl<'p> Machine<'p> {
     }
 
     /// What a frame makes of what it is given.
-    pub(crate) fn given(&self, state: &mut State<'p>, frame: Waiting<'p>, given: Given<'p>) -> Result<Next<'p>, Halt>
+    pub(crate) fn given(
+        &self,
+        state: &mut State<'p>,
+        frame: Waiting<'p>,
+        given: Given<'p>,
+    ) -> Result<Next<'p>, Halt>
         ensures { let p = self.now.program.now in let n = numbers_of p in Steps p (step_given (program_of p) (waiting_of n frame.entry) (given_of given.entry)) result state.old state.new }
     {
         match frame {
@@ -42,7 +47,12 @@ impl<'p> Machine<'p> {
     }
 
     /// What a frame makes of an exception that is thrown through it.
-    pub(crate) fn thrown(&self, state: &mut State<'p>, frame: Waiting<'p>, e: Exception) -> Result<Next<'p>, Halt>
+    pub(crate) fn thrown(
+        &self,
+        state: &mut State<'p>,
+        frame: Waiting<'p>,
+        e: Exception,
+    ) -> Result<Next<'p>, Halt>
         ensures { let p = self.now.program.now in let n = numbers_of p in Steps p (step_thrown (program_of p) (waiting_of n frame.entry) (exception_of e)) result state.old state.new }
     {
         match frame {

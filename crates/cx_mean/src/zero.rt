@@ -68,7 +68,12 @@ impl<'p> Machine<'p> {
     }
 
     /// An object of a class is zero-initialised.
-    pub(crate) fn zero_object(&self, state: &mut State<'p>, class: u32, a: Address) -> Result<(), Halt>
+    pub(crate) fn zero_object(
+        &self,
+        state: &mut State<'p>,
+        class: u32,
+        a: Address,
+    ) -> Result<(), Halt>
         ensures { Ran unit_of (zero_object (program_of self.now.program.now) no_calls class (address_of a) (state_of state.old)) result (state_of state.new) }
     {
         match self.class_at(class) {
