@@ -29,13 +29,14 @@ found : (party : Party) (e : Evaluation) (due : List task.Due) → continued par
 found party e [] = refl
 found party e (d ∷ due) =
     elim (same_evaluation e (evaluation_of party d.check)) as (λ t.
-        (if t then once_less d.left d due else (if has_stood d then behind d (continued party e due) else None))
-        ≡ at (if t then Some 0 else (if has_stood d then option_map (λ i. suc i) (place_due party e due) else None)) (d ∷ due))
-    [ true ↦ refl
-    | false ↦ elim (has_stood d) as (λ t.
-        (if t then behind d (continued party e due) else None)
-        ≡ at (if t then option_map (λ i. suc i) (place_due party e due) else None) (d ∷ due))
-        [ true ↦ ap (behind d) (found party e due) ∙ sym (later (place_due party e due) d due) | false ↦ refl ] ]
+    (if t then once_less d.left d due else (if has_stood d then behind d (continued party e due) else None))
+    ≡ at (if t then Some 0 else (if has_stood d then option_map (λ i. suc i) (place_due party e due) else None)) (d ∷ due)) [
+      | true ↦ refl
+      | false ↦ elim (has_stood d) as (λ t.
+          (if t then behind d (continued party e due) else None)
+          ≡ at (if t then option_map (λ i. suc i) (place_due party e due) else None) (d ∷ due))
+          [ true ↦ ap (behind d) (found party e due) ∙ sym (later (place_due party e due) d due) | false ↦ refl ]
+    ]
 
 -- ---- the same of a list of this program
 

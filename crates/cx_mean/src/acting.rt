@@ -21,7 +21,7 @@ use crate::asked::is_counted;
 use crate::machine::Machine;
 use crate::program::Function;
 use crate::task::{Call, CallTask, CheckTask, Level, ObjectTask, Row, StatementTask, Task};
-use crate::waiting::{CallFrame, Given, LeavingFrame, FollowingFrame, Next, Waiting};
+use crate::waiting::{CallFrame, FollowingFrame, Given, LeavingFrame, Next, Waiting};
 use cx_code::{Kind, Party};
 use cx_core::{Body, FieldInitializer, ResultKind, Statement};
 use cx_plain_state::{Address, Binding, Event, Frame, Halt, State, Value, undefined};
@@ -66,17 +66,33 @@ fn site<'p>(alloc: Global, c: &Call<'p>) -> Call<'p>
 #[tactic(auto, unfolding(cx_core::specs::Outcome::either, cx_core::specs::Outcome::gives, cx_core::specs::Outcome::ends, cx_core::specs::Outcome::throws))]
 impl<'p> Machine<'p> {
     /// What an active call does.
-    pub(crate) fn acting(&self, state: &mut State<'p>, level: Level, f: &'p Function, c: Call<'p>, frames: Vec<Waiting<'p>>) -> Result<Next<'p>, Halt>
+    pub(crate) fn acting(
+        &self,
+        state: &mut State<'p>,
+        level: Level,
+        f: &'p Function,
+        c: Call<'p>,
+        frames: Vec<Waiting<'p>>,
+    ) -> Result<Next<'p>, Halt>
         ensures { let p = self.now.program.now in let n = numbers_of p in Steps p (step_acting (program_of p) (level_of level) (body_of n f.now.body) (function_of n f.now) (call_of c.entry) (frames_of n frames.entry.items)) result state.old state.new }
     {
         match &f.body {
             Body::Function(b) => self.acting_function(state, level, f, b, c, frames),
             Body::ViolationHandler(b) => self.acting_handler(state, level, f, b, c, frames),
-            Body::Constructor(fields, b) => self.acting_constructor(state, level, f, fields, b, c, frames),
+            Body::Constructor(fields, b) => self.acting_constructor(
+                state, level, f, fields, b, c, frames,
+            ),
             Body::Destructor(class, b) => self.destructor(state, level, f, *class, b, frames),
             Body::ImplicitConstructor(class) => self.acting_default(state, level, *class, frames),
             Body::ImplicitCopyConstructor(class) => self.acting_copy(state, level, *class, frames),
-            Body::ImplicitDestructor(class) => self.destructor(state, level, f, *class, &[], frames),
+            Body::ImplicitDestructor(class) => self.destructor(
+                state,
+                level,
+                f,
+                *class,
+                &[],
+                frames,
+            ),
         }
     }
 
@@ -88,7 +104,15 @@ impl<'p> Machine<'p> {
     }
 
     /// A function: its checks, its body, and its checks again.
-    fn acting_function(&self, state: &State<'p>, level: Level, f: &'p Function, b: &'p [Statement], c: Call<'p>, frames: Vec<Waiting<'p>>) -> Result<Next<'p>, Halt>
+    fn acting_function(
+        &self,
+        state: &State<'p>,
+        level: Level,
+        f: &'p Function,
+        b: &'p [Statement],
+        c: Call<'p>,
+        frames: Vec<Waiting<'p>>,
+    ) -> Result<Next<'p>, Halt>
         ensures { let p = self.now.program.now in let n = numbers_of p in Steps p (step_acting (program_of p) (level_of level) (parts.function (stmts_of n b.now)) (function_of n f.now) (call_of c.entry) (frames_of n frames.entry.items)) result state.now state.now }
     {
         let before = CallTask::Before(level, f, site(self.alloc, &c));
@@ -103,7 +127,15 @@ impl<'p> Machine<'p> {
     }
 
     /// The violation handler: it reports what it is told, and its body runs.
-    fn acting_handler(&self, state: &mut State<'p>, level: Level, f: &'p Function, b: &'p [Statement], c: Call<'p>, frames: Vec<Waiting<'p>>) -> Result<Next<'p>, Halt>
+    fn acting_handler(
+        &self,
+        state: &mut State<'p>,
+        level: Level,
+        f: &'p Function,
+        b: &'p [Statement],
+        c: Call<'p>,
+        frames: Vec<Waiting<'p>>,
+    ) -> Result<Next<'p>, Halt>
         ensures { let p = self.now.program.now in let n = numbers_of p in Steps p (step_acting (program_of p) (level_of level) (parts.violation_handler (stmts_of n b.now)) (function_of n f.now) (call_of c.entry) (frames_of n frames.entry.items)) result state.old state.new }
     {
         report(state, &c.arguments)?;
@@ -113,7 +145,15 @@ impl<'p> Machine<'p> {
     }
 
     /// The frames of the parts of a constructor that follow its first checks.
-    fn constructor_frames(&self, level: Level, f: &'p Function, fields: &'p [FieldInitializer], b: &'p [Statement], c: &Call<'p>, constructing: Vec<Waiting<'p>>) -> Result<Vec<Waiting<'p>>, AllocError>
+    fn constructor_frames(
+        &self,
+        level: Level,
+        f: &'p Function,
+        fields: &'p [FieldInitializer],
+        b: &'p [Statement],
+        c: &Call<'p>,
+        constructing: Vec<Waiting<'p>>,
+    ) -> Result<Vec<Waiting<'p>>, AllocError>
         ensures { let n = numbers_of self.now.program.now in IfOk result (λ all. frames_of n all.items ≡ constructor_frames (level_of level) (function_of n f.now) (field_inits_of n fields.now) (stmts_of n b.now) (call_of c.now) (frames_of n constructing.entry.items)) }
     {
         let null = Waiting::Following(FollowingFrame::Replace(Given::Value(Value::Null)));
@@ -126,7 +166,16 @@ impl<'p> Machine<'p> {
     }
 
     /// A constructor: its checks, its fields, its body, and its checks again.
-    fn acting_constructor(&self, state: &mut State<'p>, level: Level, f: &'p Function, fields: &'p [FieldInitializer], b: &'p [Statement], c: Call<'p>, frames: Vec<Waiting<'p>>) -> Result<Next<'p>, Halt>
+    fn acting_constructor(
+        &self,
+        state: &mut State<'p>,
+        level: Level,
+        f: &'p Function,
+        fields: &'p [FieldInitializer],
+        b: &'p [Statement],
+        c: Call<'p>,
+        frames: Vec<Waiting<'p>>,
+    ) -> Result<Next<'p>, Halt>
         ensures { let p = self.now.program.now in let n = numbers_of p in Steps p (step_acting (program_of p) (level_of level) (parts.constructor (field_inits_of n fields.now) (stmts_of n b.now)) (function_of n f.now) (call_of c.entry) (frames_of n frames.entry.items)) result state.old state.new }
     {
         let constructing = self.enter_construction(state, level);
@@ -138,7 +187,11 @@ impl<'p> Machine<'p> {
     }
 
     /// The frames of the construction of an object by an implicit constructor.
-    fn implicit_frames(&self, constructing: Waiting<'p>, frames: Vec<Waiting<'p>>) -> Result<Vec<Waiting<'p>>, AllocError>
+    fn implicit_frames(
+        &self,
+        constructing: Waiting<'p>,
+        frames: Vec<Waiting<'p>>,
+    ) -> Result<Vec<Waiting<'p>>, AllocError>
         ensures { let n = numbers_of self.now.program.now in IfOk result (λ all. frames_of n all.items ≡ tasks.replace (tasks.value null) ∷ waiting_of n constructing.entry ∷ frames_of n frames.entry.items) }
     {
         let frames = self.framed(frames, constructing)?;
@@ -147,7 +200,14 @@ impl<'p> Machine<'p> {
     }
 
     /// The fields of class type are constructed under the frames of a construction.
-    fn default_under(&self, state: &State<'p>, level: Level, class: u32, constructing: Waiting<'p>, frames: Vec<Waiting<'p>>) -> Result<Next<'p>, Halt>
+    fn default_under(
+        &self,
+        state: &State<'p>,
+        level: Level,
+        class: u32,
+        constructing: Waiting<'p>,
+        frames: Vec<Waiting<'p>>,
+    ) -> Result<Next<'p>, Halt>
         ensures { let p = self.now.program.now in let n = numbers_of p in Steps p (default_under (program_of p) (level_of level) class (waiting_of n constructing.entry) (frames_of n frames.entry.items)) result state.now state.now }
     {
         let definition = self.class_with(state, class)?;
@@ -157,7 +217,13 @@ impl<'p> Machine<'p> {
     }
 
     /// An implicit constructor without parameters: the fields of class type are constructed.
-    fn acting_default(&self, state: &mut State<'p>, level: Level, class: u32, frames: Vec<Waiting<'p>>) -> Result<Next<'p>, Halt>
+    fn acting_default(
+        &self,
+        state: &mut State<'p>,
+        level: Level,
+        class: u32,
+        frames: Vec<Waiting<'p>>,
+    ) -> Result<Next<'p>, Halt>
         ensures { let p = self.now.program.now in let n = numbers_of p in (f : parts.Function) (c : CalledBy) → Steps p (step_acting (program_of p) (level_of level) (parts.implicit_constructor class) f c (frames_of n frames.entry.items)) result state.old state.new }
     {
         let constructing = self.enter_construction(state, level);
@@ -165,19 +231,37 @@ impl<'p> Machine<'p> {
     }
 
     /// The fields are copied under the frames of a construction.
-    fn copy_under(&self, state: &State<'p>, level: Level, class: u32, constructing: Waiting<'p>, frames: Vec<Waiting<'p>>) -> Result<Next<'p>, Halt>
+    fn copy_under(
+        &self,
+        state: &State<'p>,
+        level: Level,
+        class: u32,
+        constructing: Waiting<'p>,
+        frames: Vec<Waiting<'p>>,
+    ) -> Result<Next<'p>, Halt>
         ensures { let p = self.now.program.now in let n = numbers_of p in Steps p (copy_under (program_of p) (level_of level) class (waiting_of n constructing.entry) (frames_of n frames.entry.items)) result state.now state.now }
     {
         let definition = self.class_with(state, class)?;
         let to = parameter_place(state, 0)?;
         let source = parameter_place(state, 1)?;
         let frames = self.implicit_frames(constructing, frames)?;
-        let task = ObjectTask::CopyingMembers(level, definition.definition.fields.items(), source, to);
+        let task = ObjectTask::CopyingMembers(
+            level,
+            definition.definition.fields.items(),
+            source,
+            to,
+        );
         self.under_all(state, Task::Object(task), frames)
     }
 
     /// An implicit copy constructor: the fields are copied.
-    fn acting_copy(&self, state: &mut State<'p>, level: Level, class: u32, frames: Vec<Waiting<'p>>) -> Result<Next<'p>, Halt>
+    fn acting_copy(
+        &self,
+        state: &mut State<'p>,
+        level: Level,
+        class: u32,
+        frames: Vec<Waiting<'p>>,
+    ) -> Result<Next<'p>, Halt>
         ensures { let p = self.now.program.now in let n = numbers_of p in (f : parts.Function) (c : CalledBy) → Steps p (step_acting (program_of p) (level_of level) (parts.implicit_copy_constructor class) f c (frames_of n frames.entry.items)) result state.old state.new }
     {
         let constructing = self.enter_construction(state, level);
@@ -185,7 +269,15 @@ impl<'p> Machine<'p> {
     }
 
     /// The frames of the parts of a destructor that follow its first checks.
-    fn destructor_frames(&self, level: Level, f: &'p Function, class: u32, b: &'p [Statement], a: Address, frames: Vec<Waiting<'p>>) -> Result<Vec<Waiting<'p>>, AllocError>
+    fn destructor_frames(
+        &self,
+        level: Level,
+        f: &'p Function,
+        class: u32,
+        b: &'p [Statement],
+        a: Address,
+        frames: Vec<Waiting<'p>>,
+    ) -> Result<Vec<Waiting<'p>>, AllocError>
         ensures { let n = numbers_of self.now.program.now in IfOk result (λ all. frames_of n all.items ≡ destructor_frames (level_of level) (function_of n f.now) class (stmts_of n b.now) (address_of a) (frames_of n frames.entry.items)) }
     {
         let row = Row::Specifiers(&f.postconditions);
@@ -198,7 +290,15 @@ impl<'p> Machine<'p> {
     }
 
     /// What a destructor does: its checks, its body, the end of the fields, and its checks again.
-    pub(crate) fn destructor(&self, state: &mut State<'p>, level: Level, f: &'p Function, class: u32, b: &'p [Statement], frames: Vec<Waiting<'p>>) -> Result<Next<'p>, Halt>
+    pub(crate) fn destructor(
+        &self,
+        state: &mut State<'p>,
+        level: Level,
+        f: &'p Function,
+        class: u32,
+        b: &'p [Statement],
+        frames: Vec<Waiting<'p>>,
+    ) -> Result<Next<'p>, Halt>
         ensures { let p = self.now.program.now in let n = numbers_of p in Steps p (step_destructor (program_of p) (level_of level) (function_of n f.now) class (stmts_of n b.now) (frames_of n frames.entry.items)) result state.old state.new }
     {
         let a = parameter_place(state, 0)?;
@@ -224,7 +324,13 @@ fn numbered<'p>(alloc: Global, slot: u32, arguments: &[Value<'p>]) -> Result<Vec
         return Err(Halt::Want);
     };
     let mut variables = numbered(alloc, next, rest)?;
-    variables.insert(0, Binding { slot, value: *value })?;
+    variables.insert(
+        0,
+        Binding {
+            slot,
+            value: *value,
+        },
+    )?;
     Ok(variables)
 }
 
@@ -232,14 +338,23 @@ fn numbered<'p>(alloc: Global, slot: u32, arguments: &[Value<'p>]) -> Result<Vec
 fn unit_of(f: &Function, c: &Call<'_>) -> u32
     ensures { (p : Program) (n : Numbers) → result ≡ unit_of p no_calls (function_of n f.now) (call_of c.now) }
 {
-    if is_counted(&f.body) { f.definer } else { c.unit }
+    if is_counted(&f.body) {
+        f.definer
+    } else {
+        c.unit
+    }
 }
 
 #[tactic(auto, unfolding(cx_core::specs::Outcome::either, cx_core::specs::Outcome::gives, cx_core::specs::Outcome::ends, cx_core::specs::Outcome::throws))]
 impl<'p> Machine<'p> {
     /// The frame of a call becomes the active one. The frame that goes back to the one before is given.
     #[tactic(auto, unfolding(cx_plain_state::specs::Seen::state_of))]
-    fn enter_call(&self, state: &mut State<'p>, f: &Function, c: &Call<'p>) -> Result<Waiting<'p>, Halt>
+    fn enter_call(
+        &self,
+        state: &mut State<'p>,
+        f: &Function,
+        c: &Call<'p>,
+    ) -> Result<Waiting<'p>, Halt>
         ensures frame { IfOk result (λ w. waiting_of (numbers_of self.now.program.now) w ≡ tasks.within (state_of state.old).frame) }
         ensures entered { let p = self.now.program.now in OnOk result (state_of state.new ≡ record (state_of state.old) { frame = active_frame (program_of p) (function_of (numbers_of p) f.now) (call_of c.now) }) }
         ensures want { IfErr result (λ halt. halt ≡ Want) }
@@ -247,12 +362,25 @@ impl<'p> Machine<'p> {
         let unit = unit_of(f, c);
         let variables = numbered(self.alloc, 0, &c.arguments)?;
         let result = c.result;
-        let outer = mem::replace(&mut state.frame, Frame { unit, variables, result });
+        let outer = mem::replace(
+            &mut state.frame,
+            Frame {
+                unit,
+                variables,
+                result,
+            },
+        );
         Ok(Waiting::Leaving(LeavingFrame::Within(outer)))
     }
 
     /// A call becomes active, and does what it does.
-    pub(crate) fn enter(&self, state: &mut State<'p>, level: Level, f: &'p Function, c: Call<'p>) -> Result<Next<'p>, Halt>
+    pub(crate) fn enter(
+        &self,
+        state: &mut State<'p>,
+        level: Level,
+        f: &'p Function,
+        c: Call<'p>,
+    ) -> Result<Next<'p>, Halt>
         ensures { let p = self.now.program.now in let n = numbers_of p in Steps p (entered (program_of p) (level_of level) (function_of n f.now) (call_of c.entry)) result state.old state.new }
     {
         let within = self.enter_call(state, f, &c)?;

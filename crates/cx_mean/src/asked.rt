@@ -25,14 +25,20 @@ pub(crate) fn is_counted(body: &Body) -> bool
 {
     !matches!(
         body,
-        Body::ImplicitConstructor(_) | Body::ImplicitCopyConstructor(_) | Body::ImplicitDestructor(_)
+        Body::ImplicitConstructor(_)
+            | Body::ImplicitCopyConstructor(_)
+            | Body::ImplicitDestructor(_)
     )
 }
 
 #[tactic(auto, unfolding(crate::specs::Seen::program_of, cx_core::specs::Outcome::gives, cx_core::specs::Outcome::ends))]
 impl<'p> Machine<'p> {
     /// The function with a number.
-    pub(crate) fn function_with(&self, state: &State<'p>, function: u32) -> Result<&'p Function, Halt>
+    pub(crate) fn function_with(
+        &self,
+        state: &State<'p>,
+        function: u32,
+    ) -> Result<&'p Function, Halt>
         ensures { let p = self.now.program.now in Ran (λ f. function_of (numbers_of p) f.now) (function_with (program_of p) function (state_of state.now)) result (state_of state.now) }
     {
         match self.function_at(function) {
@@ -65,7 +71,10 @@ impl<'p> Machine<'p> {
     fn checks_by_caller(&self, unit: u32, function: u32) -> Option<&'p CallerChecks>
         ensures { let p = self.now.program.now in or_no_checks (program_of p) no_calls (option_map (λ c. caller_of (numbers_of p) c.now) result) ≡ checks_at (program_of p) no_calls function (slice_get (program_of p).callers unit) }
     {
-        self.program.callers.get(unit as usize)?.get(function as usize)
+        self.program
+            .callers
+            .get(unit as usize)?
+            .get(function as usize)
     }
 
     /// What the caller checks before a body.

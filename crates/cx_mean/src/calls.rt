@@ -23,21 +23,35 @@ use std::alloc::AllocError;
 #[tactic(auto, unfolding(cx_core::specs::Outcome::either, cx_core::specs::Outcome::gives, cx_core::specs::Outcome::ends, cx_core::specs::Outcome::throws))]
 impl<'p> Machine<'p> {
     /// A function that is defined in the source, or implicitly, is called.
-    pub(crate) fn calling(&self, state: &mut State<'p>, implicit: u64, depth: u32, c: Call<'p>) -> Result<Next<'p>, Halt>
+    pub(crate) fn calling(
+        &self,
+        state: &mut State<'p>,
+        implicit: u64,
+        depth: u32,
+        c: Call<'p>,
+    ) -> Result<Next<'p>, Halt>
         ensures { let p = self.now.program.now in let n = numbers_of p in Steps p (step_calling (program_of p) implicit depth (call_of c.entry)) result state.old state.new }
     {
         let Some(implicit) = implicit.checked_sub(1) else {
             return Err(undefined(Kind::Mixed));
         };
         if self.is_implicit(c.function) {
-            let level = Level { counted: depth, implicit };
+            let level = Level {
+                counted: depth,
+                implicit,
+            };
             return self.active(state, level, c);
         }
         self.doing(state, Task::Call(CallTask::Counted(depth, c)))
     }
 
     /// A call that is counted.
-    pub(crate) fn counted(&self, state: &mut State<'p>, depth: u32, c: Call<'p>) -> Result<Next<'p>, Halt>
+    pub(crate) fn counted(
+        &self,
+        state: &mut State<'p>,
+        depth: u32,
+        c: Call<'p>,
+    ) -> Result<Next<'p>, Halt>
         ensures { let p = self.now.program.now in let n = numbers_of p in Steps p (step_counted (program_of p) depth (call_of c.entry)) result state.old state.new }
     {
         let Some(counted) = depth.checked_sub(1) else {
@@ -48,7 +62,12 @@ impl<'p> Machine<'p> {
     }
 
     /// A call becomes active.
-    pub(crate) fn active(&self, state: &mut State<'p>, level: Level, c: Call<'p>) -> Result<Next<'p>, Halt>
+    pub(crate) fn active(
+        &self,
+        state: &mut State<'p>,
+        level: Level,
+        c: Call<'p>,
+    ) -> Result<Next<'p>, Halt>
         ensures { let p = self.now.program.now in let n = numbers_of p in Steps p (step_active (program_of p) (level_of level) (call_of c.entry)) result state.old state.new }
     {
         state.spend()?;
@@ -57,7 +76,12 @@ impl<'p> Machine<'p> {
     }
 
     /// The frames of the arguments of a call, `this` first.
-    fn argument_frames(&self, this: Option<Address>, scope: Waiting<'p>, call: Waiting<'p>) -> Result<Vec<Waiting<'p>>, AllocError>
+    fn argument_frames(
+        &self,
+        this: Option<Address>,
+        scope: Waiting<'p>,
+        call: Waiting<'p>,
+    ) -> Result<Vec<Waiting<'p>>, AllocError>
         ensures { let n = numbers_of self.now.program.now in IfOk result (λ all. frames_of n all.items ≡ this_first (option_map address_of this) (waiting_of n call.entry ∷ waiting_of n scope.entry ∷ [])) }
     {
         let frames = vec![in self.alloc; scope, call]?;
@@ -71,7 +95,15 @@ impl<'p> Machine<'p> {
     }
 
     /// The arguments of a call are evaluated in a scope of their own, then it is called.
-    pub(crate) fn call_of(&self, state: &mut State<'p>, level: Level, function: u32, this: Option<Address>, a: &'p [Argument], place: Option<Value<'p>>) -> Result<Next<'p>, Halt>
+    pub(crate) fn call_of(
+        &self,
+        state: &mut State<'p>,
+        level: Level,
+        function: u32,
+        this: Option<Address>,
+        a: &'p [Argument],
+        place: Option<Value<'p>>,
+    ) -> Result<Next<'p>, Halt>
         ensures { let p = self.now.program.now in let n = numbers_of p in Steps p (step_task (program_of p) (tasks.call_of (level_of level) function (option_map address_of this) (args_of n a.now) (option_map value_of place.entry))) result state.old state.new }
     {
         let scope = self.enter_scope(state, level);
@@ -82,7 +114,14 @@ impl<'p> Machine<'p> {
     }
 
     /// The same of a call with a result object.
-    pub(crate) fn call_into(&self, state: &mut State<'p>, level: Level, function: u32, a: &'p [Argument], object: u64) -> Result<Next<'p>, Halt>
+    pub(crate) fn call_into(
+        &self,
+        state: &mut State<'p>,
+        level: Level,
+        function: u32,
+        a: &'p [Argument],
+        object: u64,
+    ) -> Result<Next<'p>, Halt>
         ensures { let p = self.now.program.now in let n = numbers_of p in Steps p (step_task (program_of p) (tasks.call_into (level_of level) function (args_of n a.now) object)) result state.old state.new }
     {
         let scope = self.enter_scope(state, level);
@@ -92,7 +131,14 @@ impl<'p> Machine<'p> {
     }
 
     /// A constructor or destructor is called on an object.
-    pub(crate) fn call_on(&self, state: &mut State<'p>, level: Level, function: u32, a: Address, arguments: Vec<Value<'p>>) -> Result<Next<'p>, Halt>
+    pub(crate) fn call_on(
+        &self,
+        state: &mut State<'p>,
+        level: Level,
+        function: u32,
+        a: Address,
+        arguments: Vec<Value<'p>>,
+    ) -> Result<Next<'p>, Halt>
         ensures { let p = self.now.program.now in let n = numbers_of p in Steps p (step_task (program_of p) (tasks.call_on (level_of level) function (address_of a) (values_of arguments.entry.items))) result state.old state.new }
     {
         let mut arguments = arguments;
@@ -102,7 +148,13 @@ impl<'p> Machine<'p> {
     }
 
     /// The checks before a body.
-    pub(crate) fn before(&self, state: &mut State<'p>, level: Level, f: &'p Function, c: Call<'p>) -> Result<Next<'p>, Halt>
+    pub(crate) fn before(
+        &self,
+        state: &mut State<'p>,
+        level: Level,
+        f: &'p Function,
+        c: Call<'p>,
+    ) -> Result<Next<'p>, Halt>
         ensures { let p = self.now.program.now in let n = numbers_of p in Steps p (step_task (program_of p) (tasks.before (level_of level) (function_of n f.now) (call_of c.entry))) result state.old state.new }
     {
         let callers = Row::Specifiers(self.caller_preconditions(&c));
@@ -114,7 +166,13 @@ impl<'p> Machine<'p> {
     }
 
     /// The checks after a body.
-    pub(crate) fn after(&self, state: &mut State<'p>, level: Level, f: &'p Function, c: Call<'p>) -> Result<Next<'p>, Halt>
+    pub(crate) fn after(
+        &self,
+        state: &mut State<'p>,
+        level: Level,
+        f: &'p Function,
+        c: Call<'p>,
+    ) -> Result<Next<'p>, Halt>
         ensures { let p = self.now.program.now in let n = numbers_of p in Steps p (step_task (program_of p) (tasks.after (level_of level) (function_of n f.now) (call_of c.entry))) result state.old state.new }
     {
         let row = Row::Specifiers(&f.postconditions);
@@ -124,7 +182,12 @@ impl<'p> Machine<'p> {
     }
 
     /// The checks of the caller after a body.
-    pub(crate) fn caller_after(&self, state: &mut State<'p>, level: Level, c: Call<'p>) -> Result<Next<'p>, Halt>
+    pub(crate) fn caller_after(
+        &self,
+        state: &mut State<'p>,
+        level: Level,
+        c: Call<'p>,
+    ) -> Result<Next<'p>, Halt>
         ensures { let p = self.now.program.now in let n = numbers_of p in Steps p (step_task (program_of p) (tasks.caller_after (level_of level) (call_of c.entry))) result state.old state.new }
     {
         let row = Row::Specifiers(self.caller_postconditions(&c));
@@ -134,7 +197,13 @@ impl<'p> Machine<'p> {
     }
 
     /// The body of a function.
-    pub(crate) fn body(&self, state: &mut State<'p>, level: Level, kind: ResultKind, b: &'p [Statement]) -> Result<Next<'p>, Halt>
+    pub(crate) fn body(
+        &self,
+        state: &mut State<'p>,
+        level: Level,
+        kind: ResultKind,
+        b: &'p [Statement],
+    ) -> Result<Next<'p>, Halt>
         ensures { let p = self.now.program.now in let n = numbers_of p in Steps p (step_task (program_of p) (tasks.body (level_of level) (result_kind_of kind) (stmts_of n b.now))) result state.old state.new }
     {
         let statements = self.statement_of(StatementTask::Statements(level, b))?;
@@ -144,13 +213,19 @@ impl<'p> Machine<'p> {
     }
 
     /// A call, or a part of one.
-    pub(crate) fn call_task(&self, state: &mut State<'p>, task: CallTask<'p>) -> Result<Next<'p>, Halt>
+    pub(crate) fn call_task(
+        &self,
+        state: &mut State<'p>,
+        task: CallTask<'p>,
+    ) -> Result<Next<'p>, Halt>
         ensures { let p = self.now.program.now in let n = numbers_of p in Steps p (step_task (program_of p) (call_task_of n task.entry)) result state.old state.new }
     {
         match task {
             CallTask::Calling(implicit, depth, c) => self.calling(state, implicit, depth, c),
             CallTask::Counted(depth, c) => self.counted(state, depth, c),
-            CallTask::CallOf(level, f, this, a, place) => self.call_of(state, level, f, this, a, place),
+            CallTask::CallOf(level, f, this, a, place) => self.call_of(
+                state, level, f, this, a, place,
+            ),
             CallTask::CallInto(level, f, a, object) => self.call_into(state, level, f, a, object),
             CallTask::CallOn(level, f, a, arguments) => self.call_on(state, level, f, a, arguments),
             CallTask::Before(level, f, c) => self.before(state, level, f, c),

@@ -20,34 +20,42 @@ use crate::waiting::{CallFrame, FollowingFrame, Given, LeavingFrame, Next, Waiti
 use cx_code::{DetectionMode, Ending, Party, Semantic, Verdict};
 use cx_core::Assertion;
 use cx_plain_state::{Answer, Event, Exception, Halt, Report, State, Value};
-use std::alloc::AllocError;
 
 #[tactic(auto, unfolding(cx_plain_state::specs::Seen::state_of))]
 impl<'p> Machine<'p> {
     /// The call of a function from the unit whose code runs.
-    pub(crate) fn call_here(&self, state: &State<'p>, level: Level, function: u32, arguments: Vec<Value<'p>>, place: Option<Value<'p>>) -> Task<'p>
+    pub(crate) fn call_here(
+        &self,
+        state: &State<'p>,
+        level: Level,
+        function: u32,
+        arguments: Vec<Value<'p>>,
+        place: Option<Value<'p>>,
+    ) -> Task<'p>
         ensures { let p = self.now.program.now in task_of (numbers_of p) result ≡ calls (program_of p) (level_of level) (record { function = function; unit = (state_of state.now).frame.unit; arguments = values_of arguments.entry.items; result = option_map value_of place.entry }) }
     {
         let unit = state.frame.unit;
-        let call = Call { function, unit, arguments, result: place };
+        let call = Call {
+            function,
+            unit,
+            arguments,
+            result: place,
+        };
         Task::Call(CallTask::Calling(level.implicit, level.counted, call))
-    }
-
-    /// An exception is held. The frame under which a handler no longer holds it is given.
-    pub(crate) fn hold(&self, state: &mut State<'p>, level: Level, e: Exception) -> Result<Waiting<'p>, AllocError>
-        ensures frame { IfOk result (λ w. waiting_of (numbers_of self.now.program.now) w ≡ tasks.holding (level_of level) (exception_of e) (state_of state.old).held) }
-        ensures held { OnOk result (state_of state.new ≡ record (state_of state.old) { held = exception_of e ∷ (state_of state.old).held }) }
-    {
-        let others = Vec::from_slice(self.alloc, &state.held)?;
-        state.held.insert(0, e)?;
-        Ok(Waiting::Leaving(LeavingFrame::Holding(level, e, others)))
     }
 }
 
 #[tactic(auto, unfolding(cx_core::specs::Outcome::either, cx_core::specs::Outcome::gives, cx_core::specs::Outcome::ends, cx_core::specs::Outcome::throws))]
 impl<'p> Machine<'p> {
     /// So many evaluations of what is owed are made.
-    pub(crate) fn evaluations(&self, state: &mut State<'p>, level: Level, party: Party, count: u64, due: Vec<Due<'p>>) -> Result<Next<'p>, Halt>
+    pub(crate) fn evaluations(
+        &self,
+        state: &mut State<'p>,
+        level: Level,
+        party: Party,
+        count: u64,
+        due: Vec<Due<'p>>,
+    ) -> Result<Next<'p>, Halt>
         ensures { let p = self.now.program.now in let n = numbers_of p in Steps p (step_evaluations (program_of p) (level_of level) party count (map (due_of n) due.entry.items)) result state.old state.new }
     {
         match count.checked_sub(1) {
@@ -57,7 +65,15 @@ impl<'p> Machine<'p> {
     }
 
     /// A predicate is evaluated, and so many evaluations follow.
-    fn evaluated_check(&self, state: &State<'p>, level: Level, party: Party, left: u64, check: Check<'p>, due: Vec<Due<'p>>) -> Result<Next<'p>, Halt>
+    fn evaluated_check(
+        &self,
+        state: &State<'p>,
+        level: Level,
+        party: Party,
+        left: u64,
+        check: Check<'p>,
+        due: Vec<Due<'p>>,
+    ) -> Result<Next<'p>, Halt>
         ensures { let n = numbers_of self.now.program.now in Ran (next_of n) (checked (level_of level) party left (check_seen n check.entry) (map (due_of n) due.entry.items) (state_of state.now)) result (state_of state.now) }
     {
         let task = Task::Expression(ExpressionTask::EvaluatedTruth(level, check.predicate));
@@ -67,7 +83,15 @@ impl<'p> Machine<'p> {
     }
 
     /// The evaluation that is told begins, and so many follow.
-    fn begin_evaluation(&self, state: &mut State<'p>, level: Level, party: Party, left: u64, check: Check<'p>, due: Vec<Due<'p>>) -> Result<Next<'p>, Halt>
+    fn begin_evaluation(
+        &self,
+        state: &mut State<'p>,
+        level: Level,
+        party: Party,
+        left: u64,
+        check: Check<'p>,
+        due: Vec<Due<'p>>,
+    ) -> Result<Next<'p>, Halt>
         ensures { let p = self.now.program.now in let n = numbers_of p in Steps p (begun (level_of level) party left (check_seen n check.entry) (map (due_of n) due.entry.items)) result state.old state.new }
     {
         state.spend()?;
@@ -76,7 +100,14 @@ impl<'p> Machine<'p> {
     }
 
     /// The next evaluation that is told is made, and so many after it.
-    fn next_evaluation(&self, state: &mut State<'p>, level: Level, party: Party, left: u64, due: Vec<Due<'p>>) -> Result<Next<'p>, Halt>
+    fn next_evaluation(
+        &self,
+        state: &mut State<'p>,
+        level: Level,
+        party: Party,
+        left: u64,
+        due: Vec<Due<'p>>,
+    ) -> Result<Next<'p>, Halt>
         ensures { let p = self.now.program.now in let n = numbers_of p in Steps p (step_evaluations (program_of p) (level_of level) party (suc left) (map (due_of n) due.entry.items)) result state.old state.new }
     {
         let e = next_told(state)?;
@@ -87,7 +118,13 @@ impl<'p> Machine<'p> {
     }
 
     /// A row of checks is made.
-    pub(crate) fn checks(&self, state: &mut State<'p>, level: Level, party: Party, row: Row<'p>) -> Result<Next<'p>, Halt>
+    pub(crate) fn checks(
+        &self,
+        state: &mut State<'p>,
+        level: Level,
+        party: Party,
+        row: Row<'p>,
+    ) -> Result<Next<'p>, Halt>
         ensures { let p = self.now.program.now in let n = numbers_of p in Steps p (step_task (program_of p) (tasks.checks (level_of level) party (row_of n row.entry))) result state.old state.new }
     {
         let due = self.row_due(row)?;
@@ -99,7 +136,12 @@ impl<'p> Machine<'p> {
     }
 
     /// A row of checks is made, and no exception leaves it.
-    pub(crate) fn edged_checks(&self, state: &mut State<'p>, level: Level, row: Row<'p>) -> Result<Next<'p>, Halt>
+    pub(crate) fn edged_checks(
+        &self,
+        state: &mut State<'p>,
+        level: Level,
+        row: Row<'p>,
+    ) -> Result<Next<'p>, Halt>
         ensures { let p = self.now.program.now in let n = numbers_of p in Steps p (step_task (program_of p) (tasks.edged_checks (level_of level) (row_of n row.entry))) result state.old state.new }
     {
         let task = Task::Check(CheckTask::Checks(level, Party::Definer, row));
@@ -107,7 +149,13 @@ impl<'p> Machine<'p> {
     }
 
     /// The violation handler that a unit defines is called.
-    fn handler_call(&self, state: &State<'p>, level: Level, function: u32, report: Report<'p>) -> Result<Next<'p>, Halt>
+    fn handler_call(
+        &self,
+        state: &State<'p>,
+        level: Level,
+        function: u32,
+        report: Report<'p>,
+    ) -> Result<Next<'p>, Halt>
         ensures { let p = self.now.program.now in Steps p (step_handling_violation (program_of p) (level_of level) (Some function) (violation_of report.entry)) result state.now state.now }
     {
         let arguments = vec![in self.alloc; Value::Violation(report)]?;
@@ -116,7 +164,12 @@ impl<'p> Machine<'p> {
     }
 
     /// A violation is handled.
-    pub(crate) fn handling_violation(&self, state: &mut State<'p>, level: Level, report: Report<'p>) -> Result<Next<'p>, Halt>
+    pub(crate) fn handling_violation(
+        &self,
+        state: &mut State<'p>,
+        level: Level,
+        report: Report<'p>,
+    ) -> Result<Next<'p>, Halt>
         ensures { let p = self.now.program.now in let n = numbers_of p in Steps p (step_handling_violation (program_of p) (level_of level) p.handler (violation_of report.entry)) result state.old state.new }
     {
         match self.program.handler {
@@ -126,7 +179,13 @@ impl<'p> Machine<'p> {
     }
 
     /// A predicate did not hold.
-    pub(crate) fn violated(&self, state: &mut State<'p>, level: Level, semantic: Semantic, report: Report<'p>) -> Result<Next<'p>, Halt>
+    pub(crate) fn violated(
+        &self,
+        state: &mut State<'p>,
+        level: Level,
+        semantic: Semantic,
+        report: Report<'p>,
+    ) -> Result<Next<'p>, Halt>
         ensures { let p = self.now.program.now in let n = numbers_of p in Steps p (step_violated (program_of p) (level_of level) semantic (violation_of report.entry)) result state.old state.new }
     {
         let task = Task::Check(CheckTask::HandlingViolation(level, report));
@@ -139,7 +198,14 @@ impl<'p> Machine<'p> {
     }
 
     /// A predicate has been evaluated.
-    pub(crate) fn verdict(&self, state: &mut State<'p>, level: Level, assertion: &'p Assertion, semantic: Semantic, holds: bool) -> Result<Next<'p>, Halt>
+    pub(crate) fn verdict(
+        &self,
+        state: &mut State<'p>,
+        level: Level,
+        assertion: &'p Assertion,
+        semantic: Semantic,
+        holds: bool,
+    ) -> Result<Next<'p>, Halt>
         ensures { let p = self.now.program.now in let n = numbers_of p in Steps p (step_verdict (program_of p) (level_of level) (assertion_of assertion.now) semantic holds) result state.old state.new }
     {
         if holds {
@@ -147,23 +213,34 @@ impl<'p> Machine<'p> {
         }
         state.append(Event::Verdict(Verdict::False))?;
         let mode = DetectionMode::PredicateFalse;
-        let report = Report { assertion, mode, semantic };
+        let report = Report {
+            assertion,
+            mode,
+            semantic,
+        };
         self.violated(state, level, semantic, report)
     }
 
     /// A predicate was left by an exception.
-    pub(crate) fn threw(&self, state: &mut State<'p>, level: Level, semantic: Semantic, e: Exception, report: Report<'p>) -> Result<Next<'p>, Halt>
+    pub(crate) fn threw(
+        &self,
+        state: &mut State<'p>,
+        level: Level,
+        semantic: Semantic,
+        e: Exception,
+        report: Report<'p>,
+    ) -> Result<Next<'p>, Halt>
         ensures { let p = self.now.program.now in let n = numbers_of p in Steps p (step_threw (program_of p) (level_of level) semantic (exception_of e) (violation_of report.entry)) result state.old state.new }
     {
         match semantic {
             Semantic::Ignore => Ok(Next::Give(Given::Nothing)),
             Semantic::Observe => {
-                let holding = self.hold(state, level, e)?;
+                let holding = self.enter_handler(state, level, e)?;
                 let task = Task::Check(CheckTask::HandlingViolation(level, report));
                 self.under(state, task, holding)
             }
             Semantic::Enforce => {
-                let holding = self.hold(state, level, e)?;
+                let holding = self.enter_handler(state, level, e)?;
                 let task = Task::Check(CheckTask::HandlingViolation(level, report));
                 self.under_two(state, task, holding, Waiting::Call(CallFrame::Terminate))
             }
@@ -172,14 +249,22 @@ impl<'p> Machine<'p> {
     }
 
     /// A block of checks is made, or a violation is handled.
-    pub(crate) fn check_task(&self, state: &mut State<'p>, task: CheckTask<'p>) -> Result<Next<'p>, Halt>
+    pub(crate) fn check_task(
+        &self,
+        state: &mut State<'p>,
+        task: CheckTask<'p>,
+    ) -> Result<Next<'p>, Halt>
         ensures { let p = self.now.program.now in let n = numbers_of p in Steps p (step_task (program_of p) (check_task_of n task.entry)) result state.old state.new }
     {
         match task {
-            CheckTask::Evaluations(level, party, count, due) => self.evaluations(state, level, party, count, due),
+            CheckTask::Evaluations(level, party, count, due) => self.evaluations(
+                state, level, party, count, due,
+            ),
             CheckTask::Checks(level, party, row) => self.checks(state, level, party, row),
             CheckTask::EdgedChecks(level, row) => self.edged_checks(state, level, row),
-            CheckTask::HandlingViolation(level, report) => self.handling_violation(state, level, report),
+            CheckTask::HandlingViolation(level, report) => self.handling_violation(
+                state, level, report,
+            ),
         }
     }
 }

@@ -36,7 +36,11 @@ impl<'p> Machine<'p> {
     }
 
     /// One more frame inside others.
-    pub(crate) fn framed(&self, frames: Vec<Waiting<'p>>, frame: Waiting<'p>) -> Result<Vec<Waiting<'p>>, AllocError>
+    pub(crate) fn framed(
+        &self,
+        frames: Vec<Waiting<'p>>,
+        frame: Waiting<'p>,
+    ) -> Result<Vec<Waiting<'p>>, AllocError>
         ensures { let n = numbers_of self.now.program.now in IfOk result (λ all. frames_of n all.items ≡ waiting_of n frame.entry ∷ frames_of n frames.entry.items) }
     {
         let mut all = frames;
@@ -45,7 +49,11 @@ impl<'p> Machine<'p> {
     }
 
     /// One more task that follows, inside other frames.
-    pub(crate) fn followed(&self, frames: Vec<Waiting<'p>>, task: Task<'p>) -> Result<Vec<Waiting<'p>>, AllocError>
+    pub(crate) fn followed(
+        &self,
+        frames: Vec<Waiting<'p>>,
+        task: Task<'p>,
+    ) -> Result<Vec<Waiting<'p>>, AllocError>
         ensures { let n = numbers_of self.now.program.now in IfOk result (λ all. frames_of n all.items ≡ tasks.then_next (task_of n task.entry) ∷ frames_of n frames.entry.items) }
     {
         let frame = self.then(task)?;
@@ -53,7 +61,12 @@ impl<'p> Machine<'p> {
     }
 
     /// A task is done under more frames, the innermost last.
-    pub(crate) fn under_all(&self, state: &State<'p>, task: Task<'p>, frames: Vec<Waiting<'p>>) -> Result<Next<'p>, Halt>
+    pub(crate) fn under_all(
+        &self,
+        state: &State<'p>,
+        task: Task<'p>,
+        frames: Vec<Waiting<'p>>,
+    ) -> Result<Next<'p>, Halt>
         ensures { let n = numbers_of self.now.program.now in Ran (next_of n) (doing (task_of n task.entry) (frames_of n frames.entry.items) (state_of state.now)) result (state_of state.now) }
     {
         Ok(Next::Go(task, frames))

@@ -96,7 +96,11 @@ fn place_due(e: &Evaluation, party: Party, due: &[Due<'_>]) -> Option<usize>
 }
 
 /// The assertion whose evaluation is told, if the row may go on with it, and what is owed then.
-pub(crate) fn go_on<'p>(e: &Evaluation, party: Party, due: Vec<Due<'p>>) -> Option<(Check<'p>, Vec<Due<'p>>)>
+pub(crate) fn go_on<'p>(
+    e: &Evaluation,
+    party: Party,
+    due: Vec<Due<'p>>,
+) -> Option<(Check<'p>, Vec<Due<'p>>)>
     ensures { (n : Numbers) → option_map (λ more. (check_seen n more.0, map (due_of n) more.1.items)) result ≡ continued party (evaluation_of e.now) (map (due_of n) due.entry.items) }
 {
     let mut due = due;
