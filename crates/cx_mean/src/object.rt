@@ -1,5 +1,4 @@
 //! Objects that are made and declared.
-ghost use Rattle.std.specs.Prelude.{◌≡◌};
 ghost use Rattle.cx_core.specs.Numbered.{init_of};
 ghost use Rattle.cx_plain.specs.Step.{no_calls, keeps, bind_object, step_given, step_thrown, step_task};
 ghost use Rattle.cx_plain_state.specs.Ran.{Ran, unit_of, itself};
@@ -10,8 +9,6 @@ ghost use Rattle.cx_mean.specs.Frames.{given_of, object_frame_of};
 ghost use Rattle.cx_mean.specs.Parts.{made_at, object_kept, field_kept, value_written, place_bound, exception_thrown};
 ghost use Rattle.cx_mean.specs.Steps.{Steps};
 ghost use Rattle.cx_core.specs.Leaving.{leaves_of_type};
-ghost use Rattle.cx_core.specs.Statements.{type_name};
-ghost use Rattle.cx_types.specs.Scalar.{scalar_name};
 ghost use Rattle.cx_core.specs.Tree as trees;
 ghost use Rattle.cx_plain.specs.Task as tasks;
 
@@ -23,7 +20,6 @@ use cx_core::Initializer;
 use cx_plain_state::{
     Address, Event, Exception, Halt, Living, ObjectType, State, Value, undefined,
 };
-use cx_types::Scalar;
 
 #[tactic(auto, unfolding(cx_core::specs::Outcome::gives))]
 fn keep(state: &mut State<'_>, keeper: Keeper, living: Living) -> Result<(), Halt>
@@ -43,26 +39,6 @@ fn bind_object(state: &mut State<'_>, slot: Option<u32>, object: u64) -> Result<
     match slot {
         None => Ok(()),
         Some(slot) => state.bind(slot, Value::Address(Address { object, leaf: 0 })),
-    }
-}
-
-/// How a scalar type is written where a text names it.
-fn scalar_name(scalar: Scalar) -> &'static [u8]
-    ensures { result.now ≡ scalar_name scalar }
-{
-    match scalar {
-        Scalar::Bool => b"bool",
-        Scalar::Char => b"char",
-        Scalar::Int => b"int",
-        Scalar::Unsigned => b"unsigned",
-        Scalar::LongLong => b"long long",
-        Scalar::UnsignedLongLong => b"unsigned long long",
-        Scalar::AssertionKind => b"std :: contracts :: assertion_kind",
-        Scalar::EvaluationSemantic => b"std :: contracts :: evaluation_semantic",
-        Scalar::DetectionMode => b"std :: contracts :: detection_mode",
-        Scalar::Null => b"nullptr",
-        Scalar::Literal => b"literal",
-        Scalar::Location => b"location",
     }
 }
 
@@ -96,20 +72,6 @@ impl<'p> Machine<'p> {
     {
         state.bind(slot, v)?;
         Ok(Next::Give(Given::Nothing))
-    }
-
-    /// The name of the type of an exception, as events have it.
-    pub(crate) fn type_name(&self, of: ObjectType) -> &'p [u8]
-        ensures { result.now ≡ type_name (program_of self.now.program.now) (type_of of) }
-    {
-        match of {
-            ObjectType::Scalar(scalar) => scalar_name(scalar),
-            ObjectType::Pointer => b"",
-            ObjectType::Class(class) => match self.class_at(class) {
-                Some(definition) => definition.name.bytes(),
-                None => b"",
-            },
-        }
     }
 
     /// An exception flies.
