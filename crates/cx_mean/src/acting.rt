@@ -1,0 +1,390 @@
+//! What active calls do between their checks.
+ghost use Rattle.std.specs.Prelude.{◌≡◌, ◌∷◌, map, IfOk, IfErr, OnOk};
+ghost use Rattle.cx_core.specs.Meaning.{numbered, report, unit_of};
+ghost use Rattle.cx_core.specs.Numbered.{Numbers, stmts_of};
+ghost use Rattle.cx_core.specs.Program as parts;
+ghost use Rattle.cx_core.specs.Program.{Program};
+ghost use Rattle.cx_core.specs.Leaving.{Call as CalledBy};
+ghost use Rattle.cx_core.specs.Store.{null};
+ghost use Rattle.cx_plain.specs.Step.{no_calls, site_of, step_acting, step_destructor};
+ghost use Rattle.cx_plain.specs.Task as tasks;
+ghost use Rattle.cx_plain_state.specs.declared.answer.Halt.TheVariants.{Want};
+ghost use Rattle.cx_plain_state.specs.Ran.{Ran, unit_of as nothing_of, values_of};
+ghost use Rattle.cx_plain_state.specs.Seen.{address_of, binding_of, state_of};
+ghost use Rattle.cx_mean.specs.Seen.{body_of, field_inits_of, function_of, numbers_of, program_of};
+ghost use Rattle.cx_mean.specs.Tasks.{call_of, level_of};
+ghost use Rattle.cx_mean.specs.Frames.{frames_of, waiting_of};
+ghost use Rattle.cx_mean.specs.CallParts.{active_frame, constructor_frames, copy_under, default_under, destructor_frames, entered, parameter_place};
+ghost use Rattle.cx_mean.specs.Steps.{Steps};
+
+use crate::asked::is_counted;
+use crate::machine::Machine;
+use crate::program::Function;
+use crate::task::{Call, CallTask, CheckTask, Level, ObjectTask, Row, StatementTask, Task};
+use crate::waiting::{CallFrame, FollowingFrame, Given, LeavingFrame, Next, Waiting};
+use cx_code::{Kind, Party};
+use cx_core::{Body, FieldInitializer, ResultKind, Statement};
+use cx_plain_state::{Address, Binding, Event, Frame, Halt, State, Value, undefined};
+use std::alloc::{AllocError, Global};
+use std::mem;
+
+/// The place that a parameter denotes.
+#[tactic(auto, unfolding(cx_core::specs::Outcome::either, cx_core::specs::Outcome::gives, cx_core::specs::Outcome::ends))]
+fn parameter_place(state: &State<'_>, slot: u32) -> Result<Address, Halt>
+    ensures { Ran address_of (parameter_place slot (state_of state.now)) result (state_of state.now) }
+{
+    match state.named(slot)? {
+        Value::Address(a) => Ok(a),
+        Value::Null => Err(undefined(Kind::Null)),
+        _ => Err(undefined(Kind::Mixed)),
+    }
+}
+
+/// The violation that a handler is told is reported.
+#[tactic(auto, unfolding(cx_core::specs::Outcome::ends))]
+fn report<'p>(state: &mut State<'p>, arguments: &[Value<'p>]) -> Result<(), Halt>
+    ensures { (p : Program) → Ran nothing_of (report p no_calls (values_of arguments.now) (state_of state.old)) result (state_of state.new) }
+{
+    match arguments.first() {
+        Some(Value::Violation(report)) => state.append(Event::Handler(*report)),
+        _ => Err(undefined(Kind::Mixed)),
+    }
+}
+
+/// The checks before and after a body ask of its call what it calls and from where.
+fn site<'p>(alloc: Global, c: &Call<'p>) -> Call<'p>
+    ensures { call_of result ≡ site_of (call_of c.now) }
+{
+    Call {
+        function: c.function,
+        unit: c.unit,
+        arguments: Vec::new(alloc),
+        result: None,
+    }
+}
+
+#[tactic(auto, unfolding(cx_core::specs::Outcome::either, cx_core::specs::Outcome::gives, cx_core::specs::Outcome::ends, cx_core::specs::Outcome::throws))]
+impl<'p> Machine<'p> {
+    /// What an active call does.
+    pub(crate) fn acting(
+        &self,
+        state: &mut State<'p>,
+        level: Level,
+        f: &'p Function,
+        c: Call<'p>,
+        frames: Vec<Waiting<'p>>,
+    ) -> Result<Next<'p>, Halt>
+        ensures { let p = self.now.program.now in let n = numbers_of p in Steps p (step_acting (program_of p) (level_of level) (body_of n f.now.body) (function_of n f.now) (call_of c.entry) (frames_of n frames.entry.items)) result state.old state.new }
+    {
+        match &f.body {
+            Body::Function(b) => self.acting_function(state, level, f, b, c, frames),
+            Body::ViolationHandler(b) => self.acting_handler(state, level, f, b, c, frames),
+            Body::Constructor(fields, b) => self.acting_constructor(
+                state, level, f, fields, b, c, frames,
+            ),
+            Body::Destructor(class, b) => self.destructor(state, level, f, *class, b, frames),
+            Body::ImplicitConstructor(class) => self.acting_default(state, level, *class, frames),
+            Body::ImplicitCopyConstructor(class) => self.acting_copy(state, level, *class, frames),
+            Body::ImplicitDestructor(class) => self.destructor(
+                state,
+                level,
+                f,
+                *class,
+                &[],
+                frames,
+            ),
+        }
+    }
+
+    /// The edge of a function inside other frames, which no exception passes if it is `noexcept`.
+    fn edged(&self, frames: Vec<Waiting<'p>>, f: &Function) -> Result<Vec<Waiting<'p>>, AllocError>
+        ensures { let n = numbers_of self.now.program.now in IfOk result (λ all. frames_of n all.items ≡ tasks.edge_if f.now.noexcept ∷ frames_of n frames.entry.items) }
+    {
+        self.framed(frames, Waiting::Leaving(LeavingFrame::EdgeIf(f.noexcept)))
+    }
+
+    /// A function: its checks, its body, and its checks again.
+    fn acting_function(
+        &self,
+        state: &State<'p>,
+        level: Level,
+        f: &'p Function,
+        b: &'p [Statement],
+        c: Call<'p>,
+        frames: Vec<Waiting<'p>>,
+    ) -> Result<Next<'p>, Halt>
+        ensures { let p = self.now.program.now in let n = numbers_of p in Steps p (step_acting (program_of p) (level_of level) (parts.function (stmts_of n b.now)) (function_of n f.now) (call_of c.entry) (frames_of n frames.entry.items)) result state.now state.now }
+    {
+        let before = CallTask::Before(level, f, site(self.alloc, &c));
+        let frames = self.edged(frames, f)?;
+        let mut call = site(self.alloc, &c);
+        call.result = c.result;
+        let after = CallFrame::Postconditions(level, f, call);
+        let frames = self.framed(frames, Waiting::Call(after))?;
+        let body = CallTask::Body(level, f.result, b);
+        let frames = self.followed(frames, Task::Call(body))?;
+        self.under_all(state, Task::Call(before), frames)
+    }
+
+    /// The violation handler: it reports what it is told, and its body runs.
+    fn acting_handler(
+        &self,
+        state: &mut State<'p>,
+        level: Level,
+        f: &'p Function,
+        b: &'p [Statement],
+        c: Call<'p>,
+        frames: Vec<Waiting<'p>>,
+    ) -> Result<Next<'p>, Halt>
+        ensures { let p = self.now.program.now in let n = numbers_of p in Steps p (step_acting (program_of p) (level_of level) (parts.violation_handler (stmts_of n b.now)) (function_of n f.now) (call_of c.entry) (frames_of n frames.entry.items)) result state.old state.new }
+    {
+        report(state, &c.arguments)?;
+        let frames = self.edged(frames, f)?;
+        let body = CallTask::Body(level, ResultKind::Void, b);
+        self.under_all(state, Task::Call(body), frames)
+    }
+
+    /// The frames of the parts of a constructor that follow its first checks.
+    fn constructor_frames(
+        &self,
+        level: Level,
+        f: &'p Function,
+        fields: &'p [FieldInitializer],
+        b: &'p [Statement],
+        c: &Call<'p>,
+        constructing: Vec<Waiting<'p>>,
+    ) -> Result<Vec<Waiting<'p>>, AllocError>
+        ensures { let n = numbers_of self.now.program.now in IfOk result (λ all. frames_of n all.items ≡ constructor_frames (level_of level) (function_of n f.now) (field_inits_of n fields.now) (stmts_of n b.now) (call_of c.now) (frames_of n constructing.entry.items)) }
+    {
+        let null = Waiting::Following(FollowingFrame::Replace(Given::Value(Value::Null)));
+        let frames = self.framed(constructing, null)?;
+        let after = CallTask::After(level, f, site(self.alloc, c));
+        let frames = self.followed(frames, Task::Call(after))?;
+        let block = Box::new(self.alloc, StatementTask::Block(level, b))?;
+        let frames = self.followed(frames, Task::Statement(block))?;
+        self.followed(frames, Task::Object(ObjectTask::FieldInits(level, fields)))
+    }
+
+    /// A constructor: its checks, its fields, its body, and its checks again.
+    fn acting_constructor(
+        &self,
+        state: &mut State<'p>,
+        level: Level,
+        f: &'p Function,
+        fields: &'p [FieldInitializer],
+        b: &'p [Statement],
+        c: Call<'p>,
+        frames: Vec<Waiting<'p>>,
+    ) -> Result<Next<'p>, Halt>
+        ensures { let p = self.now.program.now in let n = numbers_of p in Steps p (step_acting (program_of p) (level_of level) (parts.constructor (field_inits_of n fields.now) (stmts_of n b.now)) (function_of n f.now) (call_of c.entry) (frames_of n frames.entry.items)) result state.old state.new }
+    {
+        let constructing = self.enter_construction(state, level);
+        let edged = self.edged(frames, f)?;
+        let outer = self.framed(edged, constructing)?;
+        let all = self.constructor_frames(level, f, fields, b, &c, outer)?;
+        let call = site(self.alloc, &c);
+        self.under_all(state, Task::Call(CallTask::Before(level, f, call)), all)
+    }
+
+    /// The frames of the construction of an object by an implicit constructor.
+    fn implicit_frames(
+        &self,
+        constructing: Waiting<'p>,
+        frames: Vec<Waiting<'p>>,
+    ) -> Result<Vec<Waiting<'p>>, AllocError>
+        ensures { let n = numbers_of self.now.program.now in IfOk result (λ all. frames_of n all.items ≡ tasks.replace (tasks.value null) ∷ waiting_of n constructing.entry ∷ frames_of n frames.entry.items) }
+    {
+        let frames = self.framed(frames, constructing)?;
+        let null = Waiting::Following(FollowingFrame::Replace(Given::Value(Value::Null)));
+        self.framed(frames, null)
+    }
+
+    /// The fields of class type are constructed under the frames of a construction.
+    fn default_under(
+        &self,
+        state: &State<'p>,
+        level: Level,
+        class: u32,
+        constructing: Waiting<'p>,
+        frames: Vec<Waiting<'p>>,
+    ) -> Result<Next<'p>, Halt>
+        ensures { let p = self.now.program.now in let n = numbers_of p in Steps p (default_under (program_of p) (level_of level) class (waiting_of n constructing.entry) (frames_of n frames.entry.items)) result state.now state.now }
+    {
+        let definition = self.class_with(state, class)?;
+        let frames = self.implicit_frames(constructing, frames)?;
+        let task = ObjectTask::DefaultFields(level, definition.definition.fields.items());
+        self.under_all(state, Task::Object(task), frames)
+    }
+
+    /// An implicit constructor without parameters: the fields of class type are constructed.
+    fn acting_default(
+        &self,
+        state: &mut State<'p>,
+        level: Level,
+        class: u32,
+        frames: Vec<Waiting<'p>>,
+    ) -> Result<Next<'p>, Halt>
+        ensures { let p = self.now.program.now in let n = numbers_of p in (f : parts.Function) (c : CalledBy) → Steps p (step_acting (program_of p) (level_of level) (parts.implicit_constructor class) f c (frames_of n frames.entry.items)) result state.old state.new }
+    {
+        let constructing = self.enter_construction(state, level);
+        self.default_under(state, level, class, constructing, frames)
+    }
+
+    /// The fields are copied under the frames of a construction.
+    fn copy_under(
+        &self,
+        state: &State<'p>,
+        level: Level,
+        class: u32,
+        constructing: Waiting<'p>,
+        frames: Vec<Waiting<'p>>,
+    ) -> Result<Next<'p>, Halt>
+        ensures { let p = self.now.program.now in let n = numbers_of p in Steps p (copy_under (program_of p) (level_of level) class (waiting_of n constructing.entry) (frames_of n frames.entry.items)) result state.now state.now }
+    {
+        let definition = self.class_with(state, class)?;
+        let to = parameter_place(state, 0)?;
+        let source = parameter_place(state, 1)?;
+        let frames = self.implicit_frames(constructing, frames)?;
+        let task = ObjectTask::CopyingMembers(
+            level,
+            definition.definition.fields.items(),
+            source,
+            to,
+        );
+        self.under_all(state, Task::Object(task), frames)
+    }
+
+    /// An implicit copy constructor: the fields are copied.
+    fn acting_copy(
+        &self,
+        state: &mut State<'p>,
+        level: Level,
+        class: u32,
+        frames: Vec<Waiting<'p>>,
+    ) -> Result<Next<'p>, Halt>
+        ensures { let p = self.now.program.now in let n = numbers_of p in (f : parts.Function) (c : CalledBy) → Steps p (step_acting (program_of p) (level_of level) (parts.implicit_copy_constructor class) f c (frames_of n frames.entry.items)) result state.old state.new }
+    {
+        let constructing = self.enter_construction(state, level);
+        self.copy_under(state, level, class, constructing, frames)
+    }
+
+    /// The frames of the parts of a destructor that follow its first checks.
+    fn destructor_frames(
+        &self,
+        level: Level,
+        f: &'p Function,
+        class: u32,
+        b: &'p [Statement],
+        a: Address,
+        frames: Vec<Waiting<'p>>,
+    ) -> Result<Vec<Waiting<'p>>, AllocError>
+        ensures { let n = numbers_of self.now.program.now in IfOk result (λ all. frames_of n all.items ≡ destructor_frames (level_of level) (function_of n f.now) class (stmts_of n b.now) (address_of a) (frames_of n frames.entry.items)) }
+    {
+        let row = Row::Specifiers(&f.postconditions);
+        let frames = self.followed(frames, Task::Check(CheckTask::EdgedChecks(level, row)))?;
+        let fields = ObjectTask::DestroyingFields(level, class, a);
+        let frames = self.followed(frames, Task::Object(fields))?;
+        let frames = self.framed(frames, Waiting::Leaving(LeavingFrame::EdgeIf(true)))?;
+        let block = Box::new(self.alloc, StatementTask::Block(level, b))?;
+        self.followed(frames, Task::Statement(block))
+    }
+
+    /// What a destructor does: its checks, its body, the end of the fields, and its checks again.
+    pub(crate) fn destructor(
+        &self,
+        state: &mut State<'p>,
+        level: Level,
+        f: &'p Function,
+        class: u32,
+        b: &'p [Statement],
+        frames: Vec<Waiting<'p>>,
+    ) -> Result<Next<'p>, Halt>
+        ensures { let p = self.now.program.now in let n = numbers_of p in Steps p (step_destructor (program_of p) (level_of level) (function_of n f.now) class (stmts_of n b.now) (frames_of n frames.entry.items)) result state.old state.new }
+    {
+        let a = parameter_place(state, 0)?;
+        let definition = self.class_with(state, class)?;
+        let told = CallFrame::Destroyed(definition.name.bytes(), a);
+        let frames = self.framed(frames, Waiting::Call(told))?;
+        let frames = self.destructor_frames(level, f, class, b, a, frames)?;
+        let row = Row::Specifiers(&f.preconditions);
+        let task = Task::Check(CheckTask::Checks(level, Party::Definer, row));
+        self.under_all(state, task, frames)
+    }
+}
+
+/// What the parameters of a call denote, by their slots from this one on.
+fn numbered<'p>(alloc: Global, slot: u32, arguments: &[Value<'p>]) -> Result<Vec<Binding<'p>>, Halt>
+    ensures variables { (p : Program) → IfOk result (λ variables. map binding_of variables.items ≡ numbered p no_calls slot (values_of arguments.now)) }
+    ensures want { IfErr result (λ halt. halt ≡ Want) }
+{
+    let Some((value, rest)) = arguments.split_first() else {
+        return Ok(Vec::new(alloc));
+    };
+    let Some(next) = slot.checked_add(1) else {
+        return Err(Halt::Want);
+    };
+    let mut variables = numbered(alloc, next, rest)?;
+    variables.insert(
+        0,
+        Binding {
+            slot,
+            value: *value,
+        },
+    )?;
+    Ok(variables)
+}
+
+/// The unit whose code an active call runs.
+fn unit_of(f: &Function, c: &Call<'_>) -> u32
+    ensures { (p : Program) (n : Numbers) → result ≡ unit_of p no_calls (function_of n f.now) (call_of c.now) }
+{
+    if is_counted(&f.body) {
+        f.definer
+    } else {
+        c.unit
+    }
+}
+
+#[tactic(auto, unfolding(cx_core::specs::Outcome::either, cx_core::specs::Outcome::gives, cx_core::specs::Outcome::ends, cx_core::specs::Outcome::throws))]
+impl<'p> Machine<'p> {
+    /// The frame of a call becomes the active one. The frame that goes back to the one before is given.
+    #[tactic(auto, unfolding(cx_plain_state::specs::Seen::state_of))]
+    fn enter_call(
+        &self,
+        state: &mut State<'p>,
+        f: &Function,
+        c: &Call<'p>,
+    ) -> Result<Waiting<'p>, Halt>
+        ensures frame { IfOk result (λ w. waiting_of (numbers_of self.now.program.now) w ≡ tasks.within (state_of state.old).frame) }
+        ensures entered { let p = self.now.program.now in OnOk result (state_of state.new ≡ record (state_of state.old) { frame = active_frame (program_of p) (function_of (numbers_of p) f.now) (call_of c.now) }) }
+        ensures want { IfErr result (λ halt. halt ≡ Want) }
+    {
+        let unit = unit_of(f, c);
+        let variables = numbered(self.alloc, 0, &c.arguments)?;
+        let result = c.result;
+        let outer = mem::replace(
+            &mut state.frame,
+            Frame {
+                unit,
+                variables,
+                result,
+            },
+        );
+        Ok(Waiting::Leaving(LeavingFrame::Within(outer)))
+    }
+
+    /// A call becomes active, and does what it does.
+    pub(crate) fn enter(
+        &self,
+        state: &mut State<'p>,
+        level: Level,
+        f: &'p Function,
+        c: Call<'p>,
+    ) -> Result<Next<'p>, Halt>
+        ensures { let p = self.now.program.now in let n = numbers_of p in Steps p (entered (program_of p) (level_of level) (function_of n f.now) (call_of c.entry)) result state.old state.new }
+    {
+        let within = self.enter_call(state, f, &c)?;
+        let frames = vec![in self.alloc; within]?;
+        self.acting(state, level, f, c, frames)
+    }
+}

@@ -1,0 +1,237 @@
+//! Calls.
+ghost use Rattle.std.specs.Prelude.{◌≡◌, ◌∷◌, [], IfOk};
+ghost use Rattle.std.specs.Option.{option_map};
+ghost use Rattle.cx_core.specs.Numbered.{stmts_of};
+ghost use Rattle.cx_plain.specs.Task as tasks;
+ghost use Rattle.cx_plain.specs.Step.{step_active, step_calling, step_counted, step_task, this_first};
+ghost use Rattle.cx_plain_state.specs.Seen.{value_of, address_of};
+ghost use Rattle.cx_plain_state.specs.Ran.{values_of};
+ghost use Rattle.cx_mean.specs.Seen.{numbers_of, program_of, args_of, result_kind_of, function_of};
+ghost use Rattle.cx_mean.specs.Tasks.{level_of, call_of, call_task_of};
+ghost use Rattle.cx_mean.specs.Frames.{frames_of, waiting_of};
+ghost use Rattle.cx_mean.specs.Steps.{Steps};
+
+use crate::machine::Machine;
+use crate::program::Function;
+use crate::task::{Call, CallTask, CheckTask, ExpressionTask, Level, Row, StatementTask, Task};
+use crate::waiting::{ArgumentFrame, CallFrame, FollowingFrame, Next, Waiting};
+use cx_code::{Ending, Kind, Party};
+use cx_core::{Argument, ResultKind, Statement};
+use cx_plain_state::{Address, Answer, Halt, State, Value, undefined};
+use std::alloc::AllocError;
+
+#[tactic(auto, unfolding(cx_core::specs::Outcome::either, cx_core::specs::Outcome::gives, cx_core::specs::Outcome::ends, cx_core::specs::Outcome::throws))]
+impl<'p> Machine<'p> {
+    /// A function that is defined in the source, or implicitly, is called.
+    pub(crate) fn calling(
+        &self,
+        state: &mut State<'p>,
+        implicit: u64,
+        depth: u32,
+        c: Call<'p>,
+    ) -> Result<Next<'p>, Halt>
+        ensures { let p = self.now.program.now in let n = numbers_of p in Steps p (step_calling (program_of p) implicit depth (call_of c.entry)) result state.old state.new }
+    {
+        let Some(implicit) = implicit.checked_sub(1) else {
+            return Err(undefined(Kind::Mixed));
+        };
+        if self.is_implicit(c.function) {
+            let level = Level {
+                counted: depth,
+                implicit,
+            };
+            return self.active(state, level, c);
+        }
+        self.doing(state, Task::Call(CallTask::Counted(depth, c)))
+    }
+
+    /// A call that is counted.
+    pub(crate) fn counted(
+        &self,
+        state: &mut State<'p>,
+        depth: u32,
+        c: Call<'p>,
+    ) -> Result<Next<'p>, Halt>
+        ensures { let p = self.now.program.now in let n = numbers_of p in Steps p (step_counted (program_of p) depth (call_of c.entry)) result state.old state.new }
+    {
+        let Some(counted) = depth.checked_sub(1) else {
+            return Err(Halt::Over(Answer::Ended(Ending::TooDeep)));
+        };
+        let implicit = self.class_count() + 1;
+        self.active(state, Level { counted, implicit }, c)
+    }
+
+    /// A call becomes active.
+    pub(crate) fn active(
+        &self,
+        state: &mut State<'p>,
+        level: Level,
+        c: Call<'p>,
+    ) -> Result<Next<'p>, Halt>
+        ensures { let p = self.now.program.now in let n = numbers_of p in Steps p (step_active (program_of p) (level_of level) (call_of c.entry)) result state.old state.new }
+    {
+        state.spend()?;
+        let f = self.function_with(state, c.function)?;
+        self.enter(state, level, f, c)
+    }
+
+    /// The frames of the arguments of a call, `this` first.
+    fn argument_frames(
+        &self,
+        this: Option<Address>,
+        scope: Waiting<'p>,
+        call: Waiting<'p>,
+    ) -> Result<Vec<Waiting<'p>>, AllocError>
+        ensures { let n = numbers_of self.now.program.now in IfOk result (λ all. frames_of n all.items ≡ this_first (option_map address_of this) (waiting_of n call.entry ∷ waiting_of n scope.entry ∷ [])) }
+    {
+        let frames = vec![in self.alloc; scope, call]?;
+        match this {
+            None => Ok(frames),
+            Some(a) => {
+                let frame = ArgumentFrame::FirstArgument(Value::Address(a));
+                self.framed(frames, Waiting::Argument(frame))
+            }
+        }
+    }
+
+    /// The arguments of a call are evaluated in a scope of their own, then it is called.
+    pub(crate) fn call_of(
+        &self,
+        state: &mut State<'p>,
+        level: Level,
+        function: u32,
+        this: Option<Address>,
+        a: &'p [Argument],
+        place: Option<Value<'p>>,
+    ) -> Result<Next<'p>, Halt>
+        ensures { let p = self.now.program.now in let n = numbers_of p in Steps p (step_task (program_of p) (tasks.call_of (level_of level) function (option_map address_of this) (args_of n a.now) (option_map value_of place.entry))) result state.old state.new }
+    {
+        let scope = self.enter_scope(state, level);
+        let call = Waiting::Argument(ArgumentFrame::CallWith(level, function, place));
+        let frames = self.argument_frames(this, scope, call)?;
+        let task = Task::Expression(ExpressionTask::Arguments(level, a));
+        self.under_all(state, task, frames)
+    }
+
+    /// The same of a call with a result object.
+    pub(crate) fn call_into(
+        &self,
+        state: &mut State<'p>,
+        level: Level,
+        function: u32,
+        a: &'p [Argument],
+        object: u64,
+    ) -> Result<Next<'p>, Halt>
+        ensures { let p = self.now.program.now in let n = numbers_of p in Steps p (step_task (program_of p) (tasks.call_into (level_of level) function (args_of n a.now) object)) result state.old state.new }
+    {
+        let scope = self.enter_scope(state, level);
+        let call = Waiting::Argument(ArgumentFrame::CallIntoObject(level, function, object));
+        let task = Task::Expression(ExpressionTask::Arguments(level, a));
+        self.under_two(state, task, call, scope)
+    }
+
+    /// A constructor or destructor is called on an object.
+    pub(crate) fn call_on(
+        &self,
+        state: &mut State<'p>,
+        level: Level,
+        function: u32,
+        a: Address,
+        arguments: Vec<Value<'p>>,
+    ) -> Result<Next<'p>, Halt>
+        ensures { let p = self.now.program.now in let n = numbers_of p in Steps p (step_task (program_of p) (tasks.call_on (level_of level) function (address_of a) (values_of arguments.entry.items))) result state.old state.new }
+    {
+        let mut arguments = arguments;
+        arguments.insert(0, Value::Address(a))?;
+        let task = self.call_here(state, level, function, arguments, None);
+        self.under(state, task, Waiting::Following(FollowingFrame::Discard))
+    }
+
+    /// The checks before a body.
+    pub(crate) fn before(
+        &self,
+        state: &mut State<'p>,
+        level: Level,
+        f: &'p Function,
+        c: Call<'p>,
+    ) -> Result<Next<'p>, Halt>
+        ensures { let p = self.now.program.now in let n = numbers_of p in Steps p (step_task (program_of p) (tasks.before (level_of level) (function_of n f.now) (call_of c.entry))) result state.old state.new }
+    {
+        let callers = Row::Specifiers(self.caller_preconditions(&c));
+        let task = Task::Check(CheckTask::Checks(level, Party::Caller, callers));
+        let definers = Row::Specifiers(&f.preconditions);
+        let rest = self.then(Task::Check(CheckTask::Checks(level, Party::Definer, definers)))?;
+        let within = self.enter_unit(state, c.unit)?;
+        self.under_two(state, task, within, rest)
+    }
+
+    /// The checks after a body.
+    pub(crate) fn after(
+        &self,
+        state: &mut State<'p>,
+        level: Level,
+        f: &'p Function,
+        c: Call<'p>,
+    ) -> Result<Next<'p>, Halt>
+        ensures { let p = self.now.program.now in let n = numbers_of p in Steps p (step_task (program_of p) (tasks.after (level_of level) (function_of n f.now) (call_of c.entry))) result state.old state.new }
+    {
+        let row = Row::Specifiers(&f.postconditions);
+        let task = Task::Check(CheckTask::Checks(level, Party::Definer, row));
+        let rest = self.then(Task::Call(CallTask::CallerAfter(level, c)))?;
+        self.under(state, task, rest)
+    }
+
+    /// The checks of the caller after a body.
+    pub(crate) fn caller_after(
+        &self,
+        state: &mut State<'p>,
+        level: Level,
+        c: Call<'p>,
+    ) -> Result<Next<'p>, Halt>
+        ensures { let p = self.now.program.now in let n = numbers_of p in Steps p (step_task (program_of p) (tasks.caller_after (level_of level) (call_of c.entry))) result state.old state.new }
+    {
+        let row = Row::Specifiers(self.caller_postconditions(&c));
+        let task = Task::Check(CheckTask::Checks(level, Party::Caller, row));
+        let within = self.enter_unit(state, c.unit)?;
+        self.under(state, task, within)
+    }
+
+    /// The body of a function.
+    pub(crate) fn body(
+        &self,
+        state: &mut State<'p>,
+        level: Level,
+        kind: ResultKind,
+        b: &'p [Statement],
+    ) -> Result<Next<'p>, Halt>
+        ensures { let p = self.now.program.now in let n = numbers_of p in Steps p (step_task (program_of p) (tasks.body (level_of level) (result_kind_of kind) (stmts_of n b.now))) result state.old state.new }
+    {
+        let statements = self.statement_of(StatementTask::Statements(level, b))?;
+        let scope = self.enter_scope(state, level);
+        let given = Waiting::Call(CallFrame::ValueGiven(kind));
+        self.under_two(state, statements, scope, given)
+    }
+
+    /// A call, or a part of one.
+    pub(crate) fn call_task(
+        &self,
+        state: &mut State<'p>,
+        task: CallTask<'p>,
+    ) -> Result<Next<'p>, Halt>
+        ensures { let p = self.now.program.now in let n = numbers_of p in Steps p (step_task (program_of p) (call_task_of n task.entry)) result state.old state.new }
+    {
+        match task {
+            CallTask::Calling(implicit, depth, c) => self.calling(state, implicit, depth, c),
+            CallTask::Counted(depth, c) => self.counted(state, depth, c),
+            CallTask::CallOf(level, f, this, a, place) => self.call_of(
+                state, level, f, this, a, place,
+            ),
+            CallTask::CallInto(level, f, a, object) => self.call_into(state, level, f, a, object),
+            CallTask::CallOn(level, f, a, arguments) => self.call_on(state, level, f, a, arguments),
+            CallTask::Before(level, f, c) => self.before(state, level, f, c),
+            CallTask::After(level, f, c) => self.after(state, level, f, c),
+            CallTask::CallerAfter(level, c) => self.caller_after(state, level, c),
+            CallTask::Body(level, kind, b) => self.body(state, level, kind, b),
+        }
+    }
+}

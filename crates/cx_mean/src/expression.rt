@@ -1,0 +1,224 @@
+//! Expressions, and the operands of their operators.
+ghost use Rattle.std.specs.Prelude.{[], ◌∷◌, None};
+ghost use Rattle.cx_core.specs.Numbered.{expr_of, operand_of, init_of, object_type};
+ghost use Rattle.cx_plain.specs.Task as tasks;
+ghost use Rattle.cx_plain_state.specs.Ran.{Ran};
+ghost use Rattle.cx_plain_state.specs.Seen.{state_of};
+ghost use Rattle.cx_mean.specs.Frames.{next_of, operand_frame_of, operation_of};
+ghost use Rattle.cx_mean.specs.Parts.{object_call, function_called};
+ghost use Rattle.cx_plain.specs.Step.{doing, step_expression, step_call};
+ghost use Rattle.cx_mean.specs.Seen.{numbers_of, program_of, args_of, result_kind_of};
+ghost use Rattle.cx_mean.specs.Tasks.{level_of};
+ghost use Rattle.cx_mean.specs.Steps.{Steps};
+
+use crate::leaf::{exception_object, global, literal, result_name, valued, variable};
+use crate::machine::Machine;
+use crate::task::{CallTask, ExpressionTask, Keeper, Level, ObjectTask, Task};
+use crate::waiting::{ArgumentFrame, Next, OperandFrame, Operation, Waiting};
+use cx_code::Kind;
+use cx_core::{Argument, Expression, Initializer, Operand, ResultKind};
+use cx_plain_state::{Halt, State, undefined};
+use cx_types::ValueType;
+
+#[tactic(auto, unfolding(cx_core::specs::Outcome::either, cx_core::specs::Outcome::gives, cx_core::specs::Outcome::ends, cx_core::specs::Outcome::throws))]
+impl<'p> Machine<'p> {
+    /// An operand is evaluated under one more frame.
+    pub(crate) fn used_under(
+        &self,
+        state: &State<'p>,
+        level: Level,
+        a: &'p Operand,
+        frame: OperandFrame<'p>,
+    ) -> Result<Next<'p>, Halt>
+        ensures { let n = numbers_of self.now.program.now in Ran (next_of n) (doing (tasks.used (level_of level) (operand_of n a.now)) (operand_frame_of n frame.entry ∷ []) (state_of state.now)) result (state_of state.now) }
+    {
+        let task = Task::Expression(ExpressionTask::Used(level, a));
+        self.under(state, task, Waiting::Operand(frame))
+    }
+
+    /// An expression is evaluated under one more frame.
+    pub(crate) fn evaluated_under(
+        &self,
+        state: &State<'p>,
+        level: Level,
+        e: &'p Expression,
+        frame: OperandFrame<'p>,
+    ) -> Result<Next<'p>, Halt>
+        ensures { let n = numbers_of self.now.program.now in Ran (next_of n) (doing (tasks.expression (level_of level) (expr_of n e.now)) (operand_frame_of n frame.entry ∷ []) (state_of state.now)) result (state_of state.now) }
+    {
+        let task = Task::Expression(ExpressionTask::Expression(level, e));
+        self.under(state, task, Waiting::Operand(frame))
+    }
+
+    /// An operand is evaluated as a truth under one more frame.
+    pub(crate) fn truth_under(
+        &self,
+        state: &State<'p>,
+        level: Level,
+        a: &'p Operand,
+        frame: OperandFrame<'p>,
+    ) -> Result<Next<'p>, Halt>
+        ensures { let n = numbers_of self.now.program.now in Ran (next_of n) (doing (tasks.used_truth (level_of level) (operand_of n a.now)) (operand_frame_of n frame.entry ∷ []) (state_of state.now)) result (state_of state.now) }
+    {
+        let task = Task::Expression(ExpressionTask::UsedTruth(level, a));
+        self.under(state, task, Waiting::Operand(frame))
+    }
+
+    /// An operand is evaluated for an operation.
+    fn operand_of(
+        &self,
+        state: &State<'p>,
+        level: Level,
+        a: &'p Operand,
+        operation: Operation<'p>,
+    ) -> Result<Next<'p>, Halt>
+        ensures { let n = numbers_of self.now.program.now in Ran (next_of n) (doing (tasks.used (level_of level) (operand_of n a.now)) (tasks.operate (operation_of operation.entry) ∷ []) (state_of state.now)) result (state_of state.now) }
+    {
+        self.used_under(state, level, a, OperandFrame::Operate(operation))
+    }
+
+    /// An expression is evaluated for an operation.
+    fn place_of(
+        &self,
+        state: &State<'p>,
+        level: Level,
+        e: &'p Expression,
+        operation: Operation<'p>,
+    ) -> Result<Next<'p>, Halt>
+        ensures { let n = numbers_of self.now.program.now in Ran (next_of n) (doing (tasks.expression (level_of level) (expr_of n e.now)) (tasks.operate (operation_of operation.entry) ∷ []) (state_of state.now)) result (state_of state.now) }
+    {
+        self.evaluated_under(state, level, e, OperandFrame::Operate(operation))
+    }
+
+    /// A temporary is made, and gives its place.
+    fn temporary(
+        &self,
+        state: &State<'p>,
+        level: Level,
+        of: ValueType,
+        i: &'p Initializer,
+    ) -> Result<Next<'p>, Halt>
+        ensures { let n = numbers_of self.now.program.now in Ran (next_of n) (doing (tasks.making (level_of level) tasks.full_expression (object_type n of) None (init_of n i.now)) (tasks.place_of_object ∷ []) (state_of state.now)) result (state_of state.now) }
+    {
+        let of = self.object_type(of);
+        let task = Task::Object(ObjectTask::Making(level, Keeper::FullExpression, of, None, i));
+        self.under(state, task, Waiting::Operand(OperandFrame::PlaceOfObject))
+    }
+
+    /// An expression is evaluated.
+    pub(crate) fn expression(
+        &self,
+        state: &mut State<'p>,
+        level: Level,
+        e: &'p Expression,
+    ) -> Result<Next<'p>, Halt>
+        ensures { let p = self.now.program.now in let n = numbers_of p in Steps p (step_expression (program_of p) (level_of level) (expr_of n e.now)) result state.old state.new }
+    {
+        match e {
+            Expression::Literal(c) => valued(literal(state, *c)),
+            Expression::Variable(slot) => valued(variable(state, *slot)),
+            Expression::Global(index) => valued(global(state, *index)),
+            Expression::This => valued(variable(state, 0)),
+            Expression::ResultName => valued(result_name(state)),
+            Expression::ExceptionObject => valued(exception_object(state)),
+            Expression::Unary(operator, of, a) => {
+                self.operand_of(state, level, a, Operation::Unary(*operator, *of))
+            }
+            Expression::Binary(operator, of, a, b) => {
+                let frame = OperandFrame::RightOperand(level, *operator, *of, b);
+                self.used_under(state, level, a, frame)
+            }
+            Expression::LogicalAnd(a, b) => {
+                self.truth_under(state, level, a, OperandFrame::Decide(level, false, b))
+            }
+            Expression::Puts(text) => valued(state.puts(text.bytes())),
+            Expression::Getchar => valued(state.getchar()),
+            Expression::LogicalOr(a, b) => {
+                self.truth_under(state, level, a, OperandFrame::Decide(level, true, b))
+            }
+            Expression::Conditional(a, b, c) => {
+                self.truth_under(state, level, a, OperandFrame::Choose(level, b, c))
+            }
+            Expression::Cast(a) => self.operand_of(state, level, a, Operation::Cast),
+            Expression::Assign(a, b) => {
+                self.used_under(state, level, b, OperandFrame::LeftPlace(level, a))
+            }
+            Expression::CompoundAssign(operator, computed, kept, a, b) => {
+                let frame = OperandFrame::CompoundPlace(level, *operator, *computed, *kept, a);
+                self.used_under(state, level, b, frame)
+            }
+            Expression::PrefixStep(operator, of, a) => {
+                self.place_of(state, level, a, Operation::PrefixStep(*operator, *of))
+            }
+            Expression::PostfixStep(operator, of, a) => {
+                self.place_of(state, level, a, Operation::PostfixStep(*operator, *of))
+            }
+            Expression::Indirection(a) => self.operand_of(state, level, a, Operation::Indirection),
+            Expression::Member(leaf, a) => self.place_of(state, level, a, Operation::Member(*leaf)),
+            Expression::Call(function, a) => self.called(state, level, *function, a),
+            Expression::Temporary(of, i) => self.temporary(state, level, *of, i),
+            Expression::Putchar(a) => self.operand_of(state, level, a, Operation::Putchar),
+            Expression::PutsComment(a) => self.place_of(state, level, a, Operation::PutsComment),
+            Expression::Query(query, a) => self.place_of(state, level, a, Operation::Query(*query)),
+        }
+    }
+
+    /// A scalar result object is made, and a function is called with it.
+    fn call_with_object(
+        &self,
+        state: &mut State<'p>,
+        level: Level,
+        function: u32,
+        a: &'p [Argument],
+    ) -> Result<Next<'p>, Halt>
+        ensures { let p = self.now.program.now in let n = numbers_of p in Steps p (object_call (level_of level) function (args_of n a.now)) result state.old state.new }
+    {
+        let object = state.make(self.alloc, 1)?;
+        let task = Task::Call(CallTask::CallInto(level, function, a, object));
+        self.under(
+            state,
+            task,
+            Waiting::Argument(ArgumentFrame::EndResult(object)),
+        )
+    }
+
+    /// A function is called, by what it gives.
+    fn call(
+        &self,
+        state: &mut State<'p>,
+        level: Level,
+        kind: ResultKind,
+        function: u32,
+        a: &'p [Argument],
+    ) -> Result<Next<'p>, Halt>
+        ensures { let p = self.now.program.now in let n = numbers_of p in Steps p (step_call (program_of p) (level_of level) (result_kind_of kind) function (args_of n a.now)) result state.old state.new }
+    {
+        match kind {
+            ResultKind::ScalarObject => self.call_with_object(state, level, function, a),
+            ResultKind::Void
+            | ResultKind::ScalarValue
+            | ResultKind::ClassObject(_)
+            | ResultKind::Reference
+            | ResultKind::ExitStatus => {
+                let task = Task::Call(CallTask::CallOf(level, function, None, a, None));
+                self.doing(state, task)
+            }
+        }
+    }
+
+    /// A function of the program is called.
+    fn called(
+        &self,
+        state: &mut State<'p>,
+        level: Level,
+        function: u32,
+        a: &'p [Argument],
+    ) -> Result<Next<'p>, Halt>
+        ensures { let p = self.now.program.now in let n = numbers_of p in Steps p (function_called (program_of p) (level_of level) function (args_of n a.now)) result state.old state.new }
+    {
+        match self.function_at(function) {
+            Some(definition) => self.call(state, level, definition.result, function, a),
+            None => Err(undefined(Kind::Mixed)),
+        }
+    }
+}

@@ -1,0 +1,254 @@
+//! Handlers of exceptions.
+ghost use Rattle.std.specs.Prelude.{◌≡◌, ◌∷◌, IfOk, OnOk, IfErr};
+ghost use Rattle.cx_core.specs.Numbered.{init_of, stmts_of, parameter_of};
+ghost use Rattle.cx_core.specs.Tree as tree;
+ghost use Rattle.cx_plain.specs.Task as tasks;
+ghost use Rattle.cx_plain.specs.Step.{step_parameter, step_handled, step_handling};
+ghost use Rattle.cx_plain_state.specs.declared.answer.Halt.TheVariants.{Want};
+ghost use Rattle.cx_plain_state.specs.Ran.{Ran};
+ghost use Rattle.cx_plain_state.specs.Seen.{state_of, type_of, exception_of};
+ghost use Rattle.cx_mean.specs.Seen.{numbers_of, program_of, handler_of, handlers_of};
+ghost use Rattle.cx_mean.specs.Tasks.{level_of};
+ghost use Rattle.cx_mean.specs.Frames.{frames_of, waiting_of};
+ghost use Rattle.cx_mean.specs.StatementParts.{caught, flown, innermost_flown, flown_again};
+ghost use Rattle.cx_mean.specs.Steps.{Steps};
+
+use crate::machine::Machine;
+use crate::task::{Level, ObjectTask, StatementTask, Task};
+use crate::types::same_type;
+use crate::waiting::{LeavingFrame, Next, Waiting};
+use cx_code::Ending;
+use cx_core::{CatchParameter, Handler, Initializer, Statement};
+use cx_plain_state::{Address, Answer, Event, Exception, Halt, ObjectType, State, Value};
+use std::mem;
+
+#[tactic(auto, unfolding(cx_core::specs::Outcome::either, cx_core::specs::Outcome::gives, cx_core::specs::Outcome::ends, cx_core::specs::Outcome::throws))]
+impl<'p> Machine<'p> {
+    /// A handler holds an exception. The frame that lets go of it is given.
+    #[tactic(auto, unfolding(cx_plain_state::specs::Seen::state_of))]
+    pub(crate) fn enter_handler(
+        &self,
+        state: &mut State<'p>,
+        level: Level,
+        e: Exception,
+    ) -> Result<Waiting<'p>, Halt>
+        ensures frame { IfOk result (λ frame. waiting_of (numbers_of self.now.program.now) frame ≡ tasks.holding (level_of level) (exception_of e) (state_of state.old).held) }
+        ensures entered { OnOk result (state_of state.new ≡ record (state_of state.old) { held = exception_of e ∷ (state_of state.old).held }) }
+        ensures want { IfErr result (λ halt. halt ≡ Want) }
+    {
+        let mut held = Vec::from_slice(self.alloc, &state.held)?;
+        held.insert(0, e)?;
+        let others = mem::replace(&mut state.held, held);
+        Ok(Waiting::Leaving(LeavingFrame::Holding(level, e, others)))
+    }
+
+    /// The exception object is what a parameter refers to.
+    fn reference_parameter(
+        &self,
+        state: &mut State<'p>,
+        level: Level,
+        slot: u32,
+        e: Exception,
+        b: &'p [Statement],
+        frames: Vec<Waiting<'p>>,
+    ) -> Result<Next<'p>, Halt>
+        ensures { let p = self.now.program.now in let n = numbers_of p in Steps p (step_parameter (program_of p) (level_of level) (tree.reference slot) (exception_of e) (stmts_of n b.now) (frames_of n frames.entry.items)) result state.old state.new }
+    {
+        let place = Address {
+            object: e.object,
+            leaf: 0,
+        };
+        state.bind(slot, Value::Address(place))?;
+        let block = self.statement_of(StatementTask::Statements(level, b))?;
+        self.under_all(state, block, frames)
+    }
+
+    /// A parameter is an object of its own. No exception leaves its initialisation.
+    fn object_parameter(
+        &self,
+        state: &State<'p>,
+        level: Level,
+        slot: u32,
+        i: &'p Initializer,
+        e: Exception,
+        b: &'p [Statement],
+        frames: Vec<Waiting<'p>>,
+    ) -> Result<Next<'p>, Halt>
+        ensures { let p = self.now.program.now in let n = numbers_of p in Steps p (step_parameter (program_of p) (level_of level) (tree.object slot (init_of n i.now)) (exception_of e) (stmts_of n b.now) (frames_of n frames.entry.items)) result state.now state.now }
+    {
+        let block = self.statement_of(StatementTask::Statements(level, b))?;
+        let frames = self.followed(frames, block)?;
+        let frames = self.framed(frames, Waiting::Leaving(LeavingFrame::EdgeIf(true)))?;
+        let task = Task::Object(ObjectTask::Declaring(level, slot, e.of, i));
+        self.under_all(state, task, frames)
+    }
+
+    /// A handler that declares no object or name for the exception runs its block.
+    fn no_parameter(
+        &self,
+        state: &State<'p>,
+        level: Level,
+        e: Exception,
+        b: &'p [Statement],
+        frames: Vec<Waiting<'p>>,
+    ) -> Result<Next<'p>, Halt>
+        ensures { let p = self.now.program.now in let n = numbers_of p in Steps p (step_parameter (program_of p) (level_of level) tree.unnamed (exception_of e) (stmts_of n b.now) (frames_of n frames.entry.items)) result state.now state.now }
+    {
+        let block = self.statement_of(StatementTask::Statements(level, b))?;
+        self.under_all(state, block, frames)
+    }
+
+    /// What the parameter of a handler needs is done, then its block.
+    pub(crate) fn parameter(
+        &self,
+        state: &mut State<'p>,
+        level: Level,
+        parameter: &'p CatchParameter,
+        e: Exception,
+        b: &'p [Statement],
+        frames: Vec<Waiting<'p>>,
+    ) -> Result<Next<'p>, Halt>
+        ensures { let p = self.now.program.now in let n = numbers_of p in Steps p (step_parameter (program_of p) (level_of level) (parameter_of n parameter.now) (exception_of e) (stmts_of n b.now) (frames_of n frames.entry.items)) result state.old state.new }
+    {
+        match parameter {
+            CatchParameter::Unnamed => self.no_parameter(state, level, e, b, frames),
+            CatchParameter::Reference(slot) => {
+                self.reference_parameter(state, level, *slot, e, b, frames)
+            }
+            CatchParameter::Object(slot, i) => {
+                self.object_parameter(state, level, *slot, i, e, b, frames)
+            }
+        }
+    }
+
+    /// A handler takes an exception. The frames of its scope and of its hold on the exception are given.
+    #[tactic(auto, unfolding(cx_plain_state::specs::Seen::state_of))]
+    fn caught(
+        &self,
+        state: &mut State<'p>,
+        level: Level,
+        e: Exception,
+    ) -> Result<Vec<Waiting<'p>>, Halt>
+        ensures { let p = self.now.program.now in Ran (λ frames. frames_of (numbers_of p) frames.items) (caught (program_of p) (level_of level) (exception_of e) (state_of state.old)) result (state_of state.new) }
+    {
+        state.append(Event::Catch(self.type_name(e.of)))?;
+        let holding = self.enter_handler(state, level, e)?;
+        let scope = self.enter_scope(state, level);
+        Ok(vec![in self.alloc; holding, scope]?)
+    }
+
+    /// A handler takes an exception.
+    pub(crate) fn handled(
+        &self,
+        state: &mut State<'p>,
+        level: Level,
+        e: Exception,
+        parameter: &'p CatchParameter,
+        b: &'p [Statement],
+    ) -> Result<Next<'p>, Halt>
+        ensures { let p = self.now.program.now in let n = numbers_of p in Steps p (step_handled (program_of p) (level_of level) (exception_of e) (parameter_of n parameter.now) (stmts_of n b.now)) result state.old state.new }
+    {
+        let frames = self.caught(state, level, e)?;
+        self.parameter(state, level, parameter, e, b, frames)
+    }
+
+    /// A handler for every exception takes one.
+    fn handled_by_all(
+        &self,
+        state: &mut State<'p>,
+        level: Level,
+        e: Exception,
+        b: &'p [Statement],
+    ) -> Result<Next<'p>, Halt>
+        ensures { let p = self.now.program.now in let n = numbers_of p in Steps p (step_handling (program_of p) (level_of level) (tree.catch_all (stmts_of n b.now) tree.none) (exception_of e)) result state.old state.new }
+    {
+        state.spend()?;
+        let frames = self.caught(state, level, e)?;
+        self.no_parameter(state, level, e, b, frames)
+    }
+
+    /// A handler for a type takes an exception of that type, and others are tried otherwise.
+    fn handled_by_type(
+        &self,
+        state: &mut State<'p>,
+        level: Level,
+        of: ObjectType,
+        handler: &'p Handler,
+        rest: &'p [Handler],
+        e: Exception,
+    ) -> Result<Next<'p>, Halt>
+        ensures { let p = self.now.program.now in let n = numbers_of p in Steps p (step_handling (program_of p) (level_of level) (tree.catch (type_of of) (parameter_of n handler.now.parameter) (stmts_of n handler.now.body.items) (handlers_of n rest.now)) (exception_of e)) result state.old state.new }
+    {
+        state.spend()?;
+        if same_type(e.of, of) {
+            return self.handled(state, level, e, &handler.parameter, &handler.body);
+        }
+        self.next_statement(state, StatementTask::Handling(level, rest, e))
+    }
+
+    /// A handler is tried, and then others.
+    fn handler(
+        &self,
+        state: &mut State<'p>,
+        level: Level,
+        handler: &'p Handler,
+        rest: &'p [Handler],
+        e: Exception,
+    ) -> Result<Next<'p>, Halt>
+        ensures { let p = self.now.program.now in let n = numbers_of p in Steps p (step_handling (program_of p) (level_of level) (handler_of n handler.now (handlers_of n rest.now)) (exception_of e)) result state.old state.new }
+    {
+        match &handler.catches {
+            None => self.handled_by_all(state, level, e, &handler.body),
+            Some(of) => {
+                let of = self.object_type(*of);
+                self.handled_by_type(state, level, of, handler, rest, e)
+            }
+        }
+    }
+
+    /// Handlers are tried in order.
+    pub(crate) fn handling(
+        &self,
+        state: &mut State<'p>,
+        level: Level,
+        h: &'p [Handler],
+        e: Exception,
+    ) -> Result<Next<'p>, Halt>
+        ensures { let p = self.now.program.now in let n = numbers_of p in Steps p (step_handling (program_of p) (level_of level) (handlers_of n h.now) (exception_of e)) result state.old state.new }
+    {
+        match h.split_first() {
+            None => Err(Halt::Thrown(e)),
+            Some((handler, rest)) => self.handler(state, level, handler, rest, e),
+        }
+    }
+
+    /// An exception that is held flies again.
+    fn flown(&self, state: &mut State<'p>, e: Exception) -> Result<Next<'p>, Halt>
+        ensures { let p = self.now.program.now in let n = numbers_of p in Steps p (flown (program_of p) (exception_of e)) result state.old state.new }
+    {
+        state.append(Event::Throw(self.type_name(e.of)))?;
+        Err(Halt::Thrown(e))
+    }
+
+    /// The innermost exception that is held flies again.
+    #[tactic(auto, unfolding(cx_plain_state::specs::Seen::state_of, cx_core::specs::Outcome::either, cx_core::specs::Outcome::current_held, cx_core::specs::Outcome::ends))]
+    fn innermost_flown(&self, state: &mut State<'p>) -> Result<Next<'p>, Halt>
+        ensures { let p = self.now.program.now in let n = numbers_of p in Steps p (innermost_flown (program_of p)) result state.old state.new }
+    {
+        match state.held.first() {
+            None => Err(Halt::Over(Answer::Ended(Ending::Terminated))),
+            Some(e) => {
+                let e = *e;
+                self.flown(state, e)
+            }
+        }
+    }
+
+    /// An exception is rethrown.
+    pub(crate) fn rethrown(&self, state: &mut State<'p>) -> Result<Next<'p>, Halt>
+        ensures { let p = self.now.program.now in let n = numbers_of p in Steps p (flown_again (program_of p)) result state.old state.new }
+    {
+        state.spend()?;
+        self.innermost_flown(state)
+    }
+}
