@@ -1,4 +1,5 @@
-//! Worked programs as trees, each run by the plain program of the meaning: its journal and its ending, worked out by hand.
+//! Worked programs as trees, each run by the plain program of the meaning: its journal and its ending are worked out by
+//! hand.
 #![tactic(auto)]
 
 #[cfg(test)]

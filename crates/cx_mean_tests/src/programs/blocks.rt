@@ -86,7 +86,8 @@ pub fn checked_by_both(b: Build) -> Made<Program> {
     )
 }
 
-/// What the first unit evaluates as Caller of the two assertions, and how often the second unit evaluates each as Definer.
+/// What the first unit evaluates as Caller of the two assertions, and how often the second unit evaluates each as
+/// Definer.
 fn plan(takes: Takes) -> ([Under; 2], u16) {
     match takes {
         Takes::CallerPasses => {

@@ -78,7 +78,12 @@ const IS_CONST: Stated = Stated {
     comment: b"s . f ( ) == 2",
 };
 
-/// `struct S { int f() { return 1; } int f() const { return 2; } }; int main(){ S s; contract_assert(s.f() == 2); return s.f(); }`
+/// On one line:
+///
+/// ```cpp
+/// struct S { int f() { return 1; } int f() const { return 2; } };
+/// int main(){ S s; contract_assert(s.f() == 2); return s.f(); }
+/// ```
 pub fn const_pair(b: Build) -> Made<Program> {
     let is_const = b.ints(
         BinaryOperator::Equal,

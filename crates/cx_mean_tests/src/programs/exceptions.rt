@@ -96,7 +96,12 @@ pub fn rethrowing_nothing(b: Build) -> Made<Program> {
     b.program(b.list([b.main(b.list([b.rethrows()]))]))
 }
 
-/// After `#include <cstdio>`: `struct U { ~U() { putchar('u'); } }; void f() noexcept { U u; throw 1; } int main(){ f(); return 0; }`
+/// ```cpp
+/// #include <cstdio>
+/// struct U { ~U() { putchar('u'); } };
+/// void f() noexcept { U u; throw 1; }
+/// int main(){ f(); return 0; }
+/// ```
 pub fn throwing_within_noexcept(b: Build) -> Made<Program> {
     let main = b.main(b.list([b.does(b.call(4, b.list([]))), b.returns(b.number(0))]));
     let f = b.function(

@@ -25,8 +25,8 @@ fn adds_one(b: Build, operator: UnaryOperator) -> Made<Statement> {
     b.does(b.assign_by(BinaryOperator::Add, b.variable(0), value))
 }
 
-/// `int main(){ int n = 0; int a = 23; int b = 5; n += a * b; .. return n; }`, for `* / % + - << >> < > <= >= == != & ^ |`
-/// and then `- ! ~` before `b`, in this order.
+/// `int main(){ int n = 0; int a = 23; int b = 5; n += a * b; .. return n; }`, for
+/// `* / % + - << >> < > <= >= == != & ^ |`, and then `- ! ~` before `b`, in this order.
 pub fn operating(b: Build) -> Made<Program> {
     let first = b.list([
         b.declare_int(0, b.number(0)),
@@ -89,7 +89,11 @@ pub fn dividing_by_zero(b: Build) -> Made<Program> {
     alone(b, b.list([b.returns(quotient)]))
 }
 
-/// `int main(){ int n = 0; for (int i = 0; i < 9; ++i) { if (i == 2) continue; if (i == 5) break; n += i; } return n; }`
+/// ```cpp
+/// int main(){ int n = 0;
+///   for (int i = 0; i < 9; ++i) { if (i == 2) continue; if (i == 5) break; n += i; }
+///   return n; }
+/// ```
 pub fn breaking_and_continuing(b: Build) -> Made<Program> {
     let is_two = b.ints(BinaryOperator::Equal, b.value_in(1), b.number(2));
     let is_five = b.ints(BinaryOperator::Equal, b.value_in(1), b.number(5));

@@ -212,8 +212,13 @@ pub fn parameters_before_temporaries(b: Build) -> Made<Program> {
     with_p_and_t(b, main, b.list([h]))
 }
 
-/// After `#include <cstdio>` and these classes: `void f(P p, int n) { putchar('f'); } int bad() { throw 7; }
-/// int main() { try { f(P(), bad()); } catch (int) { return 3; } return 0; }`
+/// After `#include <cstdio>` and these classes:
+///
+/// ```cpp
+/// void f(P p, int n) { putchar('f'); }
+/// int bad() { throw 7; }
+/// int main() { try { f(P(), bad()); } catch (int) { return 3; } return 0; }
+/// ```
 pub fn throwing_argument(b: Build) -> Made<Program> {
     let arguments = b.list([
         b.by_value(class(0), b.construct_plainly(1)),
