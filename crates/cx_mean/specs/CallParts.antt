@@ -91,21 +91,21 @@ destructor_frames level f t b a told =
 
 -- the fields of class type are constructed under the frames of a construction
 abbrev pub default_under : Program → Level → ℕ → task.Frame → List task.Frame → Does Next
-default_under program level t constructing frames = do
+default_under program level t outer frames = do
   definition ← class_at program no_calls t
-  doing (task.default_fields level definition.fields) (task.replace (task.value null) ∷ constructing ∷ frames)
+  doing (task.default_fields level definition.fields) (task.replace (task.value null) ∷ outer ∷ frames)
 
 -- the fields are copied under the frames of a construction
 abbrev pub copy_under : Program → Level → ℕ → task.Frame → List task.Frame → Does Next
-copy_under program level t constructing frames = do
+copy_under program level t outer frames = do
   definition ← class_at program no_calls t
   to ← this_place program no_calls
   source ← parameter_place 1
-  doing (task.copying_members level definition.fields source to) (task.replace (task.value null) ∷ constructing ∷ frames)
+  doing (task.copying_members level definition.fields source to) (task.replace (task.value null) ∷ outer ∷ frames)
 
 -- a task is done while the result of the active call is set
 abbrev pub under_result : Task → task.Frame → Value → Does Next
-under_result t posted v = do
+under_result t outer v = do
   frame ← current_frame
   set_frame (record frame { result = Some v })
-  doing t (task.within frame ∷ posted ∷ [])
+  doing t (task.within frame ∷ outer ∷ [])
