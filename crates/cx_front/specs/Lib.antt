@@ -1,4 +1,4 @@
 pub mod Literal
-pub mod Plain
 pub mod Front
-pub mod Spell
+pub mod Core
+pub mod Laws

@@ -1,5 +1,6 @@
--- The literals of the language that is built so far: a part of [lex.icon].
-use Rattle.std.specs.Prelude.{ℕ, ◌+◌, ◌-◌, ◌*◌, List, [], ◌∷◌, length, Bool, true, false, ◌==◌, ◌&&◌, nat_le, fold, if◌then◌else◌, Option, Some, None}
+-- The literals of the language that is built so far: a part of [lex.icon] and [lex.ccon].
+use Rattle.std.specs.Prelude.{ℕ, ◌+◌, ◌-◌, ◌*◌, List, [], ◌∷◌, length, Bool, true, false, ◌==◌, ◌&&◌, ◌||◌, nat_le, fold, if◌then◌else◌, Option, Some, None}
+use Rattle.cx_typed.specs.Typed.{greatest_int}
 
 abbrev pub is_digit : ℕ → Bool
 is_digit byte = nat_le 48 byte && nat_le byte 57
@@ -21,9 +22,21 @@ value_behind value bytes = fold (λ value byte. if byte == 39 then value else va
 abbrev pub decimal_value : List ℕ → ℕ
 decimal_value bytes = value_behind 0 bytes
 
-abbrev pub greatest_int : ℕ
-greatest_int = 2147483647
-
 -- the value of a decimal number of type int
 abbrev pub int_value : List ℕ → Option ℕ
 int_value bytes = if is_decimal bytes && nat_le (decimal_value bytes) greatest_int then Some (decimal_value bytes) else None
+
+-- the byte that an escape stands for, by the byte behind the backslash
+abbrev pub escaped : ℕ → Option ℕ
+escaped byte =
+    if byte == 110 then Some 10 else
+    if byte == 116 then Some 9 else
+    if byte == 114 then Some 13 else
+    if byte == 48 then Some 0 else
+    if byte == 92 || byte == 39 || byte == 34 then Some byte else None
+
+-- the value of a character literal: a byte or an escape in quotes
+abbrev pub char_value : List ℕ → Option ℕ
+char_value (39 ∷ byte ∷ 39 ∷ []) = if nat_le byte 127 then Some byte else None
+char_value (39 ∷ 92 ∷ byte ∷ 39 ∷ []) = escaped byte
+char_value bytes = None

@@ -1,4 +1,2 @@
 pub mod Code
 pub mod Tables
-pub mod Small
-pub mod Laws

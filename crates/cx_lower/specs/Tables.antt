@@ -1,41 +1,46 @@
--- The image of a unit that is built: its texts, its assertions and its two functions. This is this project's own.
+-- The image of a unit of `main` alone: its texts, its assertions and its two functions. This is this project's own.
 use Rattle.std.specs.Prelude.{ℕ, ◌+◌, List, [], ◌∷◌, ◌++◌, map, length, true, false, codes, if◌then◌else◌}
 use Rattle.std.specs.Str.{bytes_eq}
 use Rattle.cx_code.specs.declared.image.Image.{Image}
 use Rattle.cx_code.specs.declared.image.Function.{Function}
-use Rattle.cx_code.specs.declared.image.Assertion.{Assertion}
+use Rattle.cx_code.specs.declared.image.Assertion as entry
 use Rattle.cx_code.specs.declared.image.AssertionKind.TheVariants as kinds
-use Rattle.cx_code.specs.declared.violation.Semantic.{Semantic}
-use Rattle.cx_front.specs.Plain.{PlainCheck, PlainUnit}
-use Rattle.cx_typed.specs.Comment.{comment_of}
-use Rattle.cx_lower.specs.Code.{call, returns, body_code}
+use Rattle.cx_core.specs.declared.unit.CoreUnit.{CoreUnit}
+use Rattle.cx_core.specs.declared.unit.Assertion.{Assertion}
+use Rattle.cx_core.specs.Tree.{Stmts}
+use Rattle.cx_core.specs.Linked.{number_in}
+use Rattle.cx_lower.specs.Code.{call, returns, stmts_most, body_code}
 
 -- ---- texts
 
-abbrev pub comments_of : List PlainCheck → List (List ℕ)
-comments_of checks = map (λ (check : PlainCheck). comment_of check.predicate) checks
+abbrev pub comments_of : List Assertion → List (List ℕ)
+comments_of assertions = map (λ (a : Assertion). a.comment) assertions
 
 -- the names of the files of assertions that stand in an included file
-abbrev pub other_files : (name : List ℕ) → List PlainCheck → List (List ℕ)
+abbrev pub other_files : (name : List ℕ) → List Assertion → List (List ℕ)
 other_files name [] = []
-other_files name (check ∷ checks) = if bytes_eq check.file name then other_files name checks else check.file ∷ other_files name checks
+other_files name (a ∷ assertions) = if bytes_eq a.file name then other_files name assertions else a.file ∷ other_files name assertions
 
 -- the unit's name, the assertions' comments, and the names of other files
-abbrev pub texts_of : (name : List ℕ) → List PlainCheck → List (List ℕ)
-texts_of name checks = name ∷ (comments_of checks ++ other_files name checks)
+abbrev pub texts_of : (name : List ℕ) → List Assertion → List (List ℕ)
+texts_of name assertions = name ∷ (comments_of assertions ++ other_files name assertions)
 
 -- ---- assertions
 
 -- an assertion of `main`, by the text that names its file and its ordinal, which is that of its comment too
-abbrev pub entry_of : (file ordinal : ℕ) → PlainCheck → Assertion
-entry_of file ordinal check = record { function = 0; kind = kinds.Assert; ordinal = ordinal; file = file; comment = ordinal; line = check.line; column = check.column }
+abbrev pub entry_of : (file ordinal : ℕ) → Assertion → entry.Assertion
+entry_of file ordinal a = record { function = 0; kind = kinds.Assert; ordinal = ordinal; file = file; comment = ordinal; line = a.line; column = a.column }
 
 -- those from this ordinal on; `other` is the text that has the next name of another file
-abbrev pub entries_of : (name : List ℕ) → (other ordinal : ℕ) → List PlainCheck → List Assertion
+abbrev pub entries_of : (name : List ℕ) → (other ordinal : ℕ) → List Assertion → List entry.Assertion
 entries_of name other ordinal [] = []
-entries_of name other ordinal (check ∷ checks) =
-    if bytes_eq check.file name then entry_of 0 ordinal check ∷ entries_of name other (ordinal + 1) checks
-    else entry_of other ordinal check ∷ entries_of name (other + 1) (ordinal + 1) checks
+entries_of name other ordinal (a ∷ assertions) =
+    if bytes_eq a.file name then entry_of 0 ordinal a ∷ entries_of name other (ordinal + 1) assertions
+    else entry_of other ordinal a ∷ entries_of name (other + 1) (ordinal + 1) assertions
+
+-- the place of an assertion, by its name
+abbrev pub index_of : List Assertion → List ℕ → ℕ
+index_of assertions name = number_in (map (λ (a : Assertion). a.name) assertions) name
 
 -- ---- functions
 
@@ -43,16 +48,16 @@ entries_of name other ordinal (check ∷ checks) =
 abbrev pub main_function : Function
 main_function = record { name = codes "main"; counted = true; parameters = 0; slots = 0; result = true; code = call 1 ∷ returns ∷ []; regions = [] }
 
-abbrev pub body_function : Semantic → PlainUnit → Function
-body_function semantic unit = record { name = codes "main!"; counted = false; parameters = 0; slots = 0; result = true; code = body_code semantic unit; regions = [] }
+abbrev pub body_function : (index : List ℕ → ℕ) → Stmts → Function
+body_function index b = record { name = codes "main!"; counted = false; parameters = 0; slots = stmts_most 0 b; result = true; code = body_code index b; regions = [] }
 
-unfoldable pub image_of : (name : List ℕ) → Semantic → PlainUnit → Image
-image_of name semantic unit = record {
-  texts = texts_of name unit.checks;
+unfoldable pub image_of : CoreUnit → Stmts → Image
+image_of unit b = record {
+  texts = texts_of unit.name unit.assertions;
   types = [];
   globals = [];
-  functions = main_function ∷ body_function semantic unit ∷ [];
-  assertions = entries_of name (length unit.checks + 1) 1 unit.checks;
+  functions = main_function ∷ body_function (index_of unit.assertions) b ∷ [];
+  assertions = entries_of unit.name (length unit.assertions + 1) 1 unit.assertions;
   main = 0;
   handler = 0;
 }

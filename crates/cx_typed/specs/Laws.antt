@@ -1,34 +1,31 @@
--- What the laws of this crate say of the typed programs of built units; this project's own.
-use Rattle.std.specs.Prelude.{◌≡◌, [], None, Some}
+-- What the laws of this crate say of programs of `main` alone whose statements are built; this project's own.
+use Rattle.std.specs.Prelude.{◌≡◌, [], List, None}
 use Rattle.cx_code.specs.declared.image.Image.{Image}
-use Rattle.cx_syntax.specs.Tree.{UnitTree}
-use Rattle.cx_includes.specs.declared.assembled.Assembled.{Assembled}
-use Rattle.cx_front.specs.declared.source.Expr.{Expr}
-use Rattle.cx_front.specs.Front.{unit_in}
-use Rattle.cx_front.specs.Plain.{PlainUnit, plain}
-use Rattle.cx_front.specs.Spell.{spell}
+use Rattle.cx_core.specs.declared.unit.CoreUnit.{CoreUnit}
+use Rattle.cx_core.specs.declared.unit.Assertion.{Assertion}
+use Rattle.cx_core.specs.declared.statement.Statement.{Statement}
 use Rattle.cx_core.specs.Words.{Semantic}
+use Rattle.cx_core.specs.Tree.{Stmts}
+use Rattle.cx_core.specs.Program.{Program}
 use Rattle.cx_core.specs.Runs.{IsFaithful}
 use Rattle.cx_simulation.specs.ImageMachine.{image_run}
 use Rattle.cx_simulation.specs.Parts.{IsWellMade}
 use Rattle.cx_emit.specs.Units.{IsMain, StandsMain}
-use Rattle.cx_typed.specs.Comment.{words_of}
-use Rattle.cx_typed.specs.Typed.{program_of, body_of, UnitHasInts}
+use Rattle.cx_typed.specs.Typed.{AreTyped}
+use Rattle.cx_typed.specs.Unit.{program_of, body_of, IsMainAlone}
 
-abbrev pub BuiltUnitsHaveInts : Type 0
-BuiltUnitsHaveInts = (list : Assembled) (tree : UnitTree) (unit : PlainUnit) → unit_in list tree ≡ Some unit → UnitHasInts unit
+abbrev pub TypedProgramsAreWellMade : Type 0
+TypedProgramsAreWellMade =
+    (program : Program) (assertions : List Assertion) (b : Stmts) → IsMain program b → program.handler ≡ None → program.globals ≡ [] → AreTyped assertions [] b → IsWellMade program
 
-abbrev pub BuiltProgramsAreWellMade : Type 0
-BuiltProgramsAreWellMade = (semantic : Semantic) (unit : PlainUnit) → UnitHasInts unit → IsWellMade (program_of semantic unit)
+-- with the default violation handler and without globals
+abbrev pub UnitsOfMainHaveItsProgram : Type 0
+UnitsOfMainHaveItsProgram =
+    (semantic : Semantic) (unit : CoreUnit) (statements : List Statement) → IsMainAlone unit statements
+    → IsMain (program_of semantic unit) (body_of semantic unit statements) × ((program_of semantic unit).handler ≡ None) × ((program_of semantic unit).globals ≡ [])
 
-abbrev pub BuiltProgramsHaveAMain : Type 0
-BuiltProgramsHaveAMain = (semantic : Semantic) (unit : PlainUnit) → IsMain (program_of semantic unit) (body_of semantic unit) × ((program_of semantic unit).handler ≡ None)
-
--- an image without a handler and globals of its own that stands for the body of a built unit has only runs that the unit's program permits
-abbrev pub ImagesOfBuiltUnitsAreFaithful : Type 0
-ImagesOfBuiltUnitsAreFaithful =
-    (image : Image) (semantic : Semantic) (unit : PlainUnit) → UnitHasInts unit → image.handler ≡ 0 → image.globals ≡ [] → StandsMain image (body_of semantic unit)
-    → IsFaithful (image_run image) (program_of semantic unit)
-
-abbrev pub CommentsAreOfTheTokens : Type 0
-CommentsAreOfTheTokens = (predicate : Expr) → words_of (plain predicate) ≡ spell predicate
+-- an image without a handler and globals of its own that stands for the body of such a unit has only runs that the unit's program permits
+abbrev pub ImagesOfTypedUnitsAreFaithful : Type 0
+ImagesOfTypedUnitsAreFaithful =
+    (image : Image) (semantic : Semantic) (unit : CoreUnit) (statements : List Statement) → IsMainAlone unit statements → AreTyped unit.assertions [] (body_of semantic unit statements)
+    → image.handler ≡ 0 → image.globals ≡ [] → StandsMain image (body_of semantic unit statements) → IsFaithful (image_run image) (program_of semantic unit)

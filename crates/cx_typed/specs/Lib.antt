@@ -1,3 +1,5 @@
-pub mod Comment
 pub mod Typed
+pub mod Weight
+pub mod Unit
+pub mod Built
 pub mod Laws

@@ -1,33 +1,37 @@
--- The typed program of a unit that is built, by cases on the unit: its types and conversions after [lex.icon], [lex.bool], [expr.unary.op], [expr.mul] to [expr.or], [conv.integral] and [conv.bool] of the C++ draft, its assertions after [basic.contract.eval] of P2900R14; the names of assertions are this project's own.
-use Rattle.std.specs.Prelude.{ℕ, ◌+◌, ◌≤◌, pos, false, List, [], ◌∷◌, ◌++◌, Option, Some, None, codes}
-use Rattle.std.specs.List.{All}
-use Rattle.std.specs.Fmt.{decimal}
+-- Which statements of the typed program are built so far, and of which types their expressions are: numbers of `bool`, `char` and `int` are computed after [expr.unary.op], [expr.mul] to [expr.or], [conv.integral] and [conv.bool] of the C++ draft; that a variable's slot is the number of variables that are visible before it is this project's own.
+use Rattle.std.specs.Prelude.{◌≡◌, ◌⊎◌, ℕ, ◌≤◌, pos, Bool, true, false, List, [], ◌∷◌, ◌++◌, Option, Some, None, length, slice_get}
+use Rattle.cx_types.specs.declared.value_type.Scalar.{Scalar}
 use Rattle.cx_core.specs.declared.number.IntegerType.{IntegerType}
 use Rattle.cx_core.specs.declared.number.IntegerType.TheVariants as types
 use Rattle.cx_core.specs.declared.number.BinaryOperator.{BinaryOperator}
 use Rattle.cx_core.specs.declared.number.BinaryOperator.TheVariants as operators
 use Rattle.cx_core.specs.declared.number.UnaryOperator.{UnaryOperator}
-use Rattle.cx_core.specs.declared.number.UnaryOperator.TheVariants as unary
-use Rattle.cx_core.specs.Number.{truth_number}
-use Rattle.cx_core.specs.Words.{Assert, Semantic, Ignore}
+use Rattle.cx_core.specs.declared.number.UnaryOperator.TheVariants as unary_operators
+use Rattle.cx_core.specs.Number.{in_range}
+use Rattle.cx_core.specs.Operators.{integer_of}
+use Rattle.cx_core.specs.declared.unit.Assertion.{Assertion}
+use Rattle.cx_core.specs.Linked.{assertion_of}
 use Rattle.cx_core.specs.Tree as tree
-use Rattle.cx_core.specs.Tree.{Expr, literal, Operand, operand, Assertion, Check, Stmts, contract_assert, return_value, done, next}
-use Rattle.cx_core.specs.Program.{Program, Function, function, exit_status}
-use Rattle.cx_emit.specs.Units.{no_checks}
-use Rattle.cx_front.specs.Literal.{greatest_int}
-use Rattle.cx_front.specs.Plain.{Plain, PlainCheck, PlainUnit, number, truth, parens}
-use Rattle.cx_front.specs.Plain as plain
-use Rattle.cx_typed.specs.Comment.{comment_of}
+use Rattle.cx_core.specs.Tree.{ObjectType, scalar, number, Expr, literal, variable, unary, binary, assign, putchar, Operand, operand, value, Check, Stmt, Stmts, empty, expression, variable_declaration, block, if_else, while_loop, contract_assert, return_value, done, next}
+use Rattle.cx_emit.specs.Statements.{declares}
 
--- ---- expressions
+-- the greatest number of `int`
+abbrev pub greatest_int : ℕ
+greatest_int = 2147483647
 
--- `!` computes in `bool` and is of that type, the others in that of their operand after integral promotion [expr.unary.op]
+-- the types of the variables that are visible, by their slots
+abbrev pub Slots : Type 0
+Slots = List IntegerType
+
+-- ---- operators
+
+-- `!` computes in `bool` and is of that type, the others in `int` [expr.unary.op]
 abbrev pub unary_type : UnaryOperator → IntegerType
-unary_type unary.Minus = types.Int
-unary_type unary.Not = types.Bool
-unary_type unary.Complement = types.Int
+unary_type unary_operators.Minus = types.Int
+unary_type unary_operators.Not = types.Bool
+unary_type unary_operators.Complement = types.Int
 
--- a comparison is of type `bool` [expr.rel], [expr.eq], the others of that of their operands, after the usual arithmetic conversions
+-- a comparison is of type `bool` [expr.rel], [expr.eq], the others of type `int`
 abbrev pub binary_type : BinaryOperator → IntegerType
 binary_type operators.Less = types.Bool
 binary_type operators.Greater = types.Bool
@@ -37,81 +41,80 @@ binary_type operators.Equal = types.Bool
 binary_type operators.NotEqual = types.Bool
 binary_type operator = types.Int
 
-abbrev pub type_of : Plain → IntegerType
-type_of (number value word) = types.Int
-type_of (truth b) = types.Bool
-type_of (parens e) = type_of e
-type_of (plain.unary operator e) = unary_type operator
-type_of (plain.binary operator a b) = binary_type operator
+-- ---- expressions
 
--- to a type, where a value isn't of it already ([conv.prom], [conv.integral], [conv.bool])
-abbrev pub conversion : (from to : IntegerType) → Option IntegerType
-conversion types.Int types.Int = None
-conversion types.Bool types.Bool = None
-conversion from to = Some to
+-- a variable that is read as an object of the type
+abbrev pub IsRead : Slots → ObjectType → Expr → IntegerType → Type 0
+IsRead slots (scalar s) (variable slot) type = (integer_of s ≡ Some type) × (slice_get slots slot ≡ Some type)
+IsRead slots object e type = ⊥
 
-abbrev pub typed : Plain → Expr
-typed (number value word) = literal (tree.number (pos value))
-typed (truth b) = literal (tree.number (truth_number b))
-typed (parens e) = typed e
-typed (plain.unary operator e) = tree.unary operator (unary_type operator) (operand None (conversion (type_of e) (unary_type operator)) (typed e))
-typed (plain.binary operator a b) = tree.binary operator types.Int (operand None (conversion (type_of a) types.Int) (typed a)) (operand None (conversion (type_of b) types.Int) (typed b))
+-- where a value of a type is converted to another
+abbrev pub IsConverted : Option IntegerType → (from to : IntegerType) → Type 0
+IsConverted None from to = to ≡ from
+IsConverted (Some type) from to = to ≡ type
 
--- an expression where an `int` is wanted
-abbrev pub as_int : Plain → Operand
-as_int e = operand None (conversion (type_of e) types.Int) (typed e)
+unfoldable mutual
+  -- the expression gives a number of the type
+  pub HasType : Slots → Expr → IntegerType → Type 0
+  HasType slots (literal (number (pos n))) type = (n ≤ greatest_int) × (in_range type (pos n) ≡ true)
+  HasType slots (unary operator computed a) type = (computed ≡ unary_type operator) × (type ≡ computed) × Gives slots a computed
+  HasType slots (binary operator computed a b) type = (computed ≡ types.Int) × (type ≡ binary_type operator) × Gives slots a computed × Gives slots b computed
+  HasType slots other type = ⊥
 
--- an expression whose truth is asked: the conversion to `bool` [conv.bool] is the assertion's
-abbrev pub as_predicate : Plain → Operand
-as_predicate e = operand None None (typed e)
+  -- so does the operand, which is read and converted
+  pub Gives : Slots → Operand → IntegerType → Type 0
+  Gives slots (operand None to e) type = (from : IntegerType) × HasType slots e from × IsConverted to from type
+  Gives slots (operand (Some object) to e) type = (from : IntegerType) × IsRead slots object e from × IsConverted to from type
 
--- ---- assertions
+-- a value whose truth is asked
+abbrev pub IsCondition : Slots → Operand → Type 0
+IsCondition slots a = (type : IntegerType) × Gives slots a type
 
--- the assertion that has this ordinal in `main`, from 1
-abbrev pub assertion_of : (ordinal : ℕ) → PlainCheck → Assertion
-assertion_of ordinal check = record {
-  kind = Assert;
-  name = codes "main#assert" ++ decimal ordinal;
-  file = check.file;
-  line = check.line;
-  column = check.column;
-  comment = comment_of check.predicate;
-}
+-- ---- statements
 
--- evaluated once, and not at all under `ignore`
-abbrev pub times_under : Semantic → ℕ
-times_under Ignore = 0
-times_under other = 1
+abbrev pub with_slot : Slots → Option IntegerType → Slots
+with_slot slots None = slots
+with_slot slots (Some type) = slots ++ type ∷ []
 
-abbrev pub check_of : Semantic → (ordinal : ℕ) → PlainCheck → Check
-check_of semantic ordinal check = record { assertion = assertion_of ordinal check; semantic = semantic; times = times_under semantic; predicate = as_predicate check.predicate }
+-- what the statements behind it see
+abbrev pub seen_behind : Slots → Stmt → Slots
+seen_behind slots (variable_declaration slot (scalar s) init) = with_slot slots (integer_of s)
+seen_behind slots other = slots
 
--- ---- the program
+-- an assertion of the unit's table
+abbrev pub IsListed : List Assertion → tree.Assertion → Type 0
+IsListed assertions a = (i : ℕ) × (e : Assertion) × (slice_get assertions i ≡ Some e) × (a ≡ assertion_of e)
 
--- the assertion statements from an ordinal on, and then `return`
-abbrev pub statements_from : Semantic → (ordinal : ℕ) → List PlainCheck → Plain → Stmts
-statements_from semantic ordinal [] value = next (return_value (as_int value)) done
-statements_from semantic ordinal (check ∷ checks) value = next (contract_assert (check_of semantic ordinal check)) (statements_from semantic (ordinal + 1) checks value)
+-- an assertion of the unit that is evaluated once or not at all
+abbrev pub IsTypedCheck : List Assertion → Slots → Check → Type 0
+IsTypedCheck assertions slots c = ((c.times ≡ 0) ⊎ (c.times ≡ 1)) × IsListed assertions c.assertion × IsCondition slots c.predicate
 
-abbrev pub body_of : Semantic → PlainUnit → Stmts
-body_of semantic unit = statements_from semantic 1 unit.checks unit.value
+-- a variable is assigned to, or a byte is written; the value is discarded
+abbrev pub IsTypedDiscarded : Slots → Expr → Type 0
+IsTypedDiscarded slots (assign (variable slot) a) = (type : IntegerType) × (slice_get slots slot ≡ Some type) × Gives slots a type
+IsTypedDiscarded slots (putchar a) = Gives slots a types.Int
+IsTypedDiscarded slots other = ⊥
 
-abbrev pub main_of : Stmts → Function
-main_of body = record { definer = 0; noexcept = false; result = exit_status; checks = no_checks; body = function body }
+-- a variable is visible in its own initialiser [basic.scope.pdecl]
+abbrev pub IsTypedDeclaration : Slots → ℕ → Option IntegerType → Operand → Type 0
+IsTypedDeclaration slots slot None a = ⊥
+IsTypedDeclaration slots slot (Some type) a = (slot ≡ length slots) × Gives (slots ++ type ∷ []) a type
 
--- one unit with `main` alone, whose assertions all have one semantic; the violation handler is the default one
-abbrev pub program_of : Semantic → PlainUnit → Program
-program_of semantic unit = record { functions = main_of (body_of semantic unit) ∷ []; classes = []; globals = []; callers = (no_checks ∷ []) ∷ []; main = 0; handler = None }
+-- `assertions` are those of the unit
+module _ (assertions : List Assertion) where
+  unfoldable mutual
+    pub IsTyped : Slots → Stmt → Type 0
+    IsTyped slots empty = Unit {0}
+    IsTyped slots (expression e) = IsTypedDiscarded slots e
+    IsTyped slots (variable_declaration slot (scalar s) (value a)) = IsTypedDeclaration slots slot (integer_of s) a
+    IsTyped slots (block b) = AreTyped slots b
+    IsTyped slots (if_else c a b) = IsCondition slots c × (declares a ≡ false) × IsTyped slots a × (declares b ≡ false) × IsTyped slots b
+    IsTyped slots (while_loop c body) = IsCondition slots c × (declares body ≡ false) × IsTyped slots body
+    IsTyped slots (contract_assert c) = IsTypedCheck assertions slots c
+    IsTyped slots (return_value a) = Gives slots a types.Int
+    IsTyped slots other = ⊥
 
--- ---- units as they are read
-
--- each number is one of `int` [lex.icon]
-abbrev pub HasInts : Plain → Type 0
-HasInts (number value word) = value ≤ greatest_int
-HasInts (truth b) = Unit {0}
-HasInts (parens e) = HasInts e
-HasInts (plain.unary operator e) = HasInts e
-HasInts (plain.binary operator a b) = HasInts a × HasInts b
-
-abbrev pub UnitHasInts : PlainUnit → Type 0
-UnitHasInts unit = All (λ (check : PlainCheck). HasInts check.predicate) unit.checks × HasInts unit.value
+    -- the statements of a block, or of a body
+    pub AreTyped : Slots → Stmts → Type 0
+    AreTyped slots done = Unit {0}
+    AreTyped slots (next s rest) = IsTyped slots s × AreTyped (seen_behind slots s) rest

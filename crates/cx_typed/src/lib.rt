@@ -1,9 +1,9 @@
-//! The typed program of a unit that is built, and that it is well made.
+//! Which typed programs are built so far: the types of their expressions, and that they are well made.
 #![tactic(auto)]
 
 mod laws;
 
 pub use laws::{
-    built_programs_are_well_made, built_programs_have_a_main, built_units_have_ints,
-    comments_are_of_the_tokens, images_of_built_units_are_faithful,
+    images_of_typed_units_are_faithful, typed_programs_are_well_made,
+    units_of_main_have_its_program,
 };

@@ -1,9 +1,0 @@
-mod Ranges
-mod Front
-mod Keeps
-mod Expressions
-mod Statements
-mod Whole
-mod Images
-mod Tokens
-mod Examples

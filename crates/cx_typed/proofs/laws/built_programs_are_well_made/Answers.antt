@@ -1,5 +1,0 @@
-use Rattle.cx_typed.proofs.Whole.{well_made}
-use Rattle.cx_typed.proofs.laws.built_programs_are_well_made.Goals as goal
-
-pub returns : goal.returns
-returns c = well_made
