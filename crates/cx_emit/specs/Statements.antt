@@ -98,8 +98,9 @@ module _ (image : Image) (function : ℕ) where
     StandsStmt around now break from to = (l : Loop) × (around.loop ≡ Some l) × StandsExit image function l.depth (now ∷ around.scopes) from l.break_to
     StandsStmt around now continue from to = (l : Loop) × (around.loop ≡ Some l) × StandsExit image function l.depth (now ∷ around.scopes) from l.continue_to
     StandsStmt around now (contract_assert c) from to = StandsCheck image function Definer c from to
-    -- the value stays on the operands while the objects of all scopes end
-    StandsStmt around now (return_value a) from to = (p : ℕ) × StandsOperand image function a from p × StandsExit image function (suc (length around.scopes)) (now ∷ around.scopes) p around.exit
+    -- the value stays on the operands while the objects of all scopes end, which several such statements may share
+    StandsStmt around now (return_value a) from to =
+        (p q : ℕ) × StandsOperand image function a from p × GoesOn image function p q × StandsExit image function (suc (length around.scopes)) (now ∷ around.scopes) q around.exit
     StandsStmt around now other from to = ⊥
 
     -- the statements of a scope, at whose end its objects end
