@@ -17,8 +17,8 @@ use Rattle.cx_core.specs.Tree.{ObjectType, scalar, number, Expr, literal, variab
 abbrev pub instruction : ℕ → ℕ → ℕ → Instruction
 instruction code a b = record { code = code; a = a; b = b }
 
-abbrev pub push : (value : ℕ) → Instruction
-push value = instruction 1 0 value
+abbrev pub push : ℕ → Instruction
+push n = instruction 1 0 n
 
 abbrev pub discard : Instruction
 discard = instruction 5 0 0
