@@ -15,4 +15,4 @@ Tells numbers semantic table =
     → numbers.assertion a predicate ≡ record { assertion = assertion_of e; semantic = semantic; times = times_under semantic 0; predicate = predicate }
 
 abbrev pub typed_of : Numbers → TypedExpression → Typed
-typed_of numbers e = record { read = object_type_or_none numbers e.read; type = e.type; of = expr_of numbers e.of }
+typed_of numbers e = record { read = object_type_or_none numbers e.read; type = e.gives; of = expr_of numbers e.of }

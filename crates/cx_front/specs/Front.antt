@@ -38,6 +38,8 @@ use Rattle.cx_core.specs.Tree.{Stmt, Stmts, done, next}
 use Rattle.cx_core.specs.Linked.{assertion_of, times_under}
 use Rattle.cx_typed.specs.Typed.{unary_type, binary_type}
 use Rattle.cx_typed.specs.Unit.{body_of, IsMainAlone}
+use Rattle.cx_front.specs.declared.names.Variable.{Variable}
+use Rattle.cx_front.specs.declared.names.Slot.{Slot}
 use Rattle.cx_front.specs.Literal.{int_value, char_value}
 
 -- where both are there
@@ -59,18 +61,9 @@ name_of_file list file = unwrap_or (option_map (λ (source : SourceFile). source
 
 -- ---- variables
 
--- a variable that is visible, by the number of its name
-pub record Variable : Type 0 where
-  pub name : ℕ
-  pub type : IntegerType
-
 -- those that are visible, by their slots, the latest last
 abbrev pub Names : Type 0
 Names = List Variable
-
-pub record Slot : Type 0 where
-  pub slot : ℕ
-  pub type : IntegerType
 
 abbrev pub or_later : Option Slot → Option Slot → Option Slot
 or_later earlier (Some s) = Some s
@@ -79,7 +72,7 @@ or_later earlier None = earlier
 -- the latest variable of the name, which hides the others [basic.scope.block]
 abbrev pub found_from : (slot : ℕ) → (name : ℕ) → Names → Option Slot
 found_from slot name [] = None
-found_from slot name (v ∷ names) = or_later (if nat_eq v.name name then Some (record { slot = slot; type = v.type }) else None) (found_from (suc slot) name names)
+found_from slot name (v ∷ names) = or_later (if nat_eq v.name name then Some (record { slot = slot; of = v.of }) else None) (found_from (suc slot) name names)
 
 abbrev pub found : (name : ℕ) → Names → Option Slot
 found name names = found_from 0 name names
@@ -128,7 +121,7 @@ truth_of W.False = Some (prvalue types.Bool (core.literal (core.number (pos 0)))
 truth_of word = None
 
 abbrev pub variable_of : Slot → Typed
-variable_of s = record { read = Some (core.scalar (scalar_of s.type)); type = s.type; of = core.variable s.slot }
+variable_of s = record { read = Some (core.scalar (scalar_of s.of)); type = s.of; of = core.variable s.slot }
 
 abbrev pub leaf_of : Names → List ℕ → Mark → Option Typed
 leaf_of names word M.Number = number_of types.Int (int_value word)
@@ -217,7 +210,7 @@ statement_of_check semantic list ordinal e word predicate = core.contract_assert
 
 -- an assignment to a variable
 abbrev pub assigned : Slot → Typed → Stmt
-assigned s e = core.expression (core.assign (core.variable s.slot) (as_type s.type e))
+assigned s e = core.expression (core.assign (core.variable s.slot) (as_type s.of e))
 
 abbrev pub target_in : Names → grammar.Expr → Option Slot
 target_in names (leaf i (M.Name n)) = found n names
@@ -280,7 +273,7 @@ abbrev pub may_name : List ℕ → Bool
 may_name word = not (bytes_eq word (codes "main")) && not (bytes_eq word (codes "putchar"))
 
 abbrev pub with_name : Names → (name : ℕ) → IntegerType → Names
-with_name names name type = names ++ record { name = name; type = type } ∷ []
+with_name names name type = names ++ record { name = name; of = type } ∷ []
 
 abbrev pub declared : Names → IntegerType → Typed → Stmt
 declared names type e = core.variable_declaration (length names) (core.scalar (scalar_of type)) (core.value (as_type type e))
