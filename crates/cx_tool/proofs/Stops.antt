@@ -15,7 +15,7 @@ use Rattle.cx_includes.specs.Assembled.{HasCause, IsListOver}
 use Rattle.cx_includes.specs.Assembled as includes
 use Rattle.cx_tool.specs.declared.answer.Answer.{Answer}
 use Rattle.cx_tool.specs.declared.answer.Answer.TheVariants as answers
-use Rattle.cx_front.specs.declared.source.SourceUnit.{SourceUnit}
+use Rattle.cx_core.specs.declared.unit.CoreUnit.{CoreUnit}
 use Rattle.cx_front.specs.Front.{IsUnitOf, IsOutside, most_tokens}
 use Rattle.cx_faults.specs.declared.fault.ListFault.{ListFault}
 use Rattle.cx_faults.specs.declared.fault.ListFault.TheVariants as list_faults
@@ -45,19 +45,19 @@ wants_memory wanted (Ok v) x h e = absurd h
 wants_memory wanted (Err y) x h e = inr (h ∙ e)
 
 -- a list of a unit that may be built is not outside
-pub no_outside : (list : Assembled) (tree : SourceUnit) → IsUnitOf list tree → length list.placed ≤ most_tokens → IsOutside list → ⊥
+pub no_outside : (list : Assembled) (tree : CoreUnit) → IsUnitOf list tree → length list.placed ≤ most_tokens → IsOutside list → ⊥
 no_outside list tree is few outside = elim outside [ inl none ↦ none tree is | inr many ↦ absurd (omega arith) ]
 
-pub built : (list other : Assembled) (tree : SourceUnit) (answer : Answer) (unit : List ℕ) → IsUnitOf list tree → length list.placed ≤ most_tokens → other ≡ list
+pub built : (list other : Assembled) (tree : CoreUnit) (answer : Answer) (unit : List ℕ) → IsUnitOf list tree → length list.placed ≤ most_tokens → other ≡ list
     → (answer ≡ answers.OutOfMemory) ⊎ ((answer ≡ answers.Unbuilt unit) × IsOutside other) → answer ≡ answers.OutOfMemory
 built list other tree answer unit is few same cause = elim cause [ inl e ↦ e | inr unbuilt ↦ absurd (no_outside list tree is few (subst IsOutside same unbuilt.1)) ]
 
 -- what is told of a list's unit
-pub unit_told : (list : Assembled) (told : Option SourceUnit) (unit : SourceUnit) → told ≡ Some unit → MatchOption told ((other : SourceUnit) → IsUnitOf list other → ⊥) (IsUnitOf list) → IsUnitOf list unit
-unit_told list told unit e is = subst (λ (o : Option SourceUnit). MatchOption o ((other : SourceUnit) → IsUnitOf list other → ⊥) (IsUnitOf list)) e is
+pub unit_told : (list : Assembled) (told : Option CoreUnit) (unit : CoreUnit) → told ≡ Some unit → MatchOption told ((other : CoreUnit) → IsUnitOf list other → ⊥) (IsUnitOf list) → IsUnitOf list unit
+unit_told list told unit e is = subst (λ (o : Option CoreUnit). MatchOption o ((other : CoreUnit) → IsUnitOf list other → ⊥) (IsUnitOf list)) e is
 
-pub none_told : (list : Assembled) (told : Option SourceUnit) → told ≡ None → MatchOption told ((other : SourceUnit) → IsUnitOf list other → ⊥) (IsUnitOf list) → (unit : SourceUnit) → IsUnitOf list unit → ⊥
-none_told list told e is = subst (λ (o : Option SourceUnit). MatchOption o ((other : SourceUnit) → IsUnitOf list other → ⊥) (IsUnitOf list)) e is
+pub none_told : (list : Assembled) (told : Option CoreUnit) → told ≡ None → MatchOption told ((other : CoreUnit) → IsUnitOf list other → ⊥) (IsUnitOf list) → (unit : CoreUnit) → IsUnitOf list unit → ⊥
+none_told list told e is = subst (λ (o : Option CoreUnit). MatchOption o ((other : CoreUnit) → IsUnitOf list other → ⊥) (IsUnitOf list)) e is
 
 -- what a `?` hands on keeps its cause
 pub handed_on : {X : Type 0} (r : Result X Answer) (x : Answer) (P : Answer → Type 0) → IsErrAnd r (λ e. e ≡ x) → P x → IfErr r P

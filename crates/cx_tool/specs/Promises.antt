@@ -16,7 +16,7 @@ use Rattle.cx_tool.specs.declared.answer.Answer.TheVariants as answers
 use Rattle.cx_tool.specs.declared.answer.Stream.TheVariants as streams
 use Rattle.cx_tool.specs.declared.answer.Report.{Report}
 use Rattle.cx_tool.specs.declared.answer.Refusal.{Refusal}
-use Rattle.cx_front.specs.declared.source.SourceUnit.{SourceUnit}
+use Rattle.cx_core.specs.declared.unit.CoreUnit.{CoreUnit}
 use Rattle.cx_tool.specs.Words.{Request, request_of, NamesUnit, OfRequest, HasLongName}
 use Rattle.cx_front.specs.Front.{IsUnitOf, IsOutside, most_tokens}
 use Rattle.cx_tool.specs.Faults.{fault_answer, list_fault_answer, HasFault, HasUnitFault}
@@ -98,7 +98,7 @@ pub record Promises (words : List (List ℕ)) (seen : Seen) (report : Report) : 
   pub unbuilt_comes : (unit : List ℕ) (folder : Folder) (list : Assembled) → NamesUnit words unit → seen.files ≡ Some folder → IsListOf folder unit list → IsFaultless list → IsOutside list → FilesHeld seen → ErrHeld seen
       → Comes report.answer (answers.Unbuilt unit)
   -- Where they tell a list without a fault that isn't so, and no call fails, the unit's program runs, or memory is wanted.
-  pub ran_comes : (unit : List ℕ) (folder : Folder) (list : Assembled) (tree : SourceUnit) → NamesUnit words unit → seen.files ≡ Some folder → IsListOf folder unit list → IsFaultless list → IsUnitOf list tree
+  pub ran_comes : (unit : List ℕ) (folder : Folder) (list : Assembled) (tree : CoreUnit) → NamesUnit words unit → seen.files ≡ Some folder → IsListOf folder unit list → IsFaultless list → IsUnitOf list tree
       → length list.placed ≤ most_tokens → FilesHeld seen → OutHeld seen → ErrHeld seen → Comes report.answer answers.Ran
   -- FileFault is answered only where a call on the files failed.
   pub file_fault_has_cause : report.answer ≡ answers.FileFault → FilesFailed seen
