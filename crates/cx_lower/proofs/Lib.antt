@@ -1,2 +1,5 @@
+pub mod Lengths
+pub mod Instructions
+pub mod Typing
 pub mod Operations
 pub mod Parts
