@@ -1,3 +1,5 @@
+pub mod Expressions
+pub mod Scopes
 pub mod Lengths
 pub mod Instructions
 pub mod Typing
