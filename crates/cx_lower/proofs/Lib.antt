@@ -1,3 +1,4 @@
+pub mod Statements
 pub mod Expressions
 pub mod Scopes
 pub mod Lengths
