@@ -1,3 +1,4 @@
+pub mod Assertions
 pub mod Statements
 pub mod Expressions
 pub mod Scopes
