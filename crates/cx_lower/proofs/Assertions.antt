@@ -1,5 +1,5 @@
 -- The assertions of the image of a unit are those of the unit's table, and the place of each is found by its name.
-use Rattle.std.proofs.Common.{◌≡◌, ℕ, zero, suc, ◌+◌, ◌^◌, ◌≤◌, List, [], ◌∷◌, ◌++◌, length, drop, map, Some, true, false, cond, inl, inr, refl, sym, ap, subst, ◌∙◌, arith, codes, add-one}
+use Rattle.std.proofs.Common.{◌≡◌, ℕ, zero, suc, ◌+◌, ◌^◌, ◌≤◌, List, [], ◌∷◌, ◌++◌, length, drop, Some, true, false, cond, inl, inr, refl, sym, ap, subst, ◌∙◌, arith, codes, add-one}
 use Rattle.std.specs.Prelude.{slice_get}
 use Rattle.std.specs.Fmt.{decimal}
 use Rattle.std.specs.Str.{bytes_eq}

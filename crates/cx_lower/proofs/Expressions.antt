@@ -1,5 +1,5 @@
 -- Where the code of a typed expression or assertion stands, it stands for the tree.
-use Rattle.std.proofs.Common.{◌≡◌, ◌⊎◌, ℕ, zero, suc, ◌+◌, pos, List, [], ◌∷◌, ◌++◌, length, Option, Some, None, inl, inr, refl, sym, ap, subst, ◌∙◌, arith, length-append}
+use Rattle.std.proofs.Common.{◌≡◌, ◌⊎◌, ℕ, ◌+◌, pos, [], ◌∷◌, ◌++◌, length, Option, Some, None, inl, inr, refl, sym, ap, subst, ◌∙◌, arith, length-append}
 use Rattle.cx_code.specs.declared.code.Instruction.{Instruction}
 use Rattle.cx_code.specs.declared.image.Image.{Image}
 use Rattle.cx_code.specs.declared.operation.Operation.{Operation}
@@ -36,6 +36,7 @@ module _ (image : Image) (function : ℕ) where
 
   mutual
     unfolding StandsExpr expr_code HasType
+
     pub expr_stands : (slots : Slots) (e : Expr) (type : IntegerType) (from : ℕ) → HasType slots e type → HasCode image function from (expr_code e) → StandsExpr image function e from (from + length (expr_code e))
     expr_stands slots (literal (number (pos k))) type from typed h = inl (record { here = h.0 ∙ push_is k typed.0; next = refl })
     expr_stands slots (unary operator computing a) type from typed h =

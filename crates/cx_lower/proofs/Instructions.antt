@@ -25,7 +25,7 @@ use Rattle.cx_core.specs.Tree.{scalar, number, Expr, literal, variable, unary, b
 use Rattle.cx_typed.specs.Typed.{Slots, unary_type, HasType, Gives, IsCondition, IsListed, IsTypedDiscarded, IsTyped, AreTyped, seen_behind}
 use Rattle.cx_lower.specs.Code.{begin, unary_instruction, binary_instruction, convert, conversion_code, load_code, expr_code, operand_code, truth_code, discarded_code, violated_code, verdict_code, evaluation_code, times_code, ends_code, live_behind, stmt_code, stmts_code, stmt_most, stmts_most, exit_code, jump, jump_zero, out, discard, store, returns, exit_of, body_code}
 use Rattle.cx_lower.proofs.Typing.{declared, live_more, live_within, seen_length}
-use Rattle.cx_lower.proofs.Lengths.{length_ends, same_stmts_length}
+use Rattle.cx_lower.proofs.Placed.{length_ends, same_stmts_length}
 
 -- an operation of a body: it has no calls, globals, texts and exceptions, and its assertion, its slot and the place that it jumps to are below these
 abbrev pub IsOurs : (assertions slots places : ℕ) → Option Operation → Type 0
@@ -81,6 +81,7 @@ module _ (n most places : ℕ) where
 
   mutual
     unfolding operation_of expr_code HasType
+
     expr_ours : (slots : Slots) (e : Expr) (type : IntegerType) → length slots ≤ most → HasType slots e type → EachIsOurs (expr_code e)
     expr_ours slots (literal (number (pos k))) type few typed = (tt, tt)
     expr_ours slots (unary operator computed a) type few typed =
@@ -151,6 +152,7 @@ module _ (n most places : ℕ) where
   module _ (assertions : List Assertion) (index : List ℕ → ℕ) (exit : ℕ) (indexed : (a : tree.Assertion) → IsListed assertions a → index a.name < n) (leaves : exit < places) where
     mutual
       unfolding operation_of stmt_code stmt_most IsTyped
+
       pub stmt_ours : (slots : Slots) (live start : ℕ) (s : Stmt) → live ≡ length slots → IsTyped assertions slots s → stmt_most live s ≤ most → start + length (stmt_code index exit live start s) < places
           → EachIsOurs (stmt_code index exit live start s)
       stmt_ours slots live start (expression e) is typed few within = discarded_ours slots start e (omega arith) typed within
@@ -169,15 +171,14 @@ module _ (n most places : ℕ) where
           let first = length-append (truth_code c) rest in
           let second = length-append then_code behind in
           each_append (truth_code c) rest (truth_ours slots c (omega (arith, live_within live (if_else c a b))) typed.0)
-              (omega (arith, first, second), each_append then_code behind (stmt_ours slots live then_start a is typed.2 (omega arith) (omega (arith, first, second))) (omega (arith, first, second), stmt_ours slots live else_start b is typed.4 (omega arith) (omega (arith, first, second))))
+          (omega (arith, first, second), each_append then_code behind (stmt_ours slots live then_start a is typed.2 (omega arith) (omega (arith, first, second))) (omega (arith, first, second), stmt_ours slots live else_start b is typed.4 (omega arith) (omega (arith, first, second))))
       stmt_ours slots live start (while_loop c body) is typed few within =
           let body_start = start + 1 + length (truth_code c) + 1 in
           let body_code = stmt_code index exit live body_start body in
           let behind = jump (start + 1) ∷ [] in
           let rest = jump_zero (body_start + length body_code + 1) ∷ (body_code ++ behind) in
           let first = length-append (truth_code c) rest in
-          let second = length-append body_code behind in
-          (
+          let second = length-append body_code behind in (
             omega (arith, first),
             each_append (truth_code c) rest (truth_ours slots c (omega (arith, live_within live (while_loop c body))) typed.0) (omega (arith, first, second), each_append body_code behind (stmt_ours slots live body_start body is typed.2 few (omega (arith, first, second))) (omega (arith, first), tt)),
           )
@@ -197,7 +198,7 @@ module _ (n most places : ℕ) where
           let seen = seen_length assertions slots (base + count) s is typed.0 in
           let below : stmts_most (live_behind (base + count) s) rest ≤ most = omega arith in
           each_append code behind (stmt_ours slots (base + count) start s is typed.0 (omega arith) (omega (arith, all)))
-              (stmts_ours (seen_behind slots s) base (live_behind count s) (start + length code) rest (omega (arith, more, seen)) typed.1 (subst (λ (k : ℕ). stmts_most k rest ≤ most) (sym more) below) (omega (arith, all)))
+          (stmts_ours (seen_behind slots s) base (live_behind count s) (start + length code) rest (omega (arith, more, seen)) typed.1 (subst (λ (k : ℕ). stmts_most k rest ≤ most) (sym more) below) (omega (arith, all)))
 
   -- ---- the body
 
@@ -211,7 +212,7 @@ module _ (n most places : ℕ) where
       let second = length-append ends (returns ∷ []) in
       let leaves : exit < places = omega (arith, first, second, length_ends 0 (stmts_most 0 b), same_stmts_length index 0 exit 0 0 0 0 b) in
       each_append code (exit_code exit (stmts_most 0 b)) (stmts_ours assertions index exit indexed leaves [] 0 0 0 b refl typed few (omega (arith, first)))
-          (tt, (leaves, each_append ends (returns ∷ []) (ends_ours 0 (stmts_most 0 b) (omega arith)) (tt, tt)))
+      (tt, (leaves, each_append ends (returns ∷ []) (ends_ours 0 (stmts_most 0 b) (omega arith)) (tt, tt)))
 
   -- what holds of each of our operations holds of the code
   of_each : (P : Option Operation → Type 0) (code : List Instruction) → ((o : Option Operation) → IsOurs n most places o → P o) → EachIsOurs code → AllByRecursion (λ (i : Instruction). P (operation_of i)) code

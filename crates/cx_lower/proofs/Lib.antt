@@ -1,9 +1,10 @@
-pub mod Assertions
-pub mod Statements
-pub mod Expressions
-pub mod Scopes
-pub mod Lengths
-pub mod Instructions
-pub mod Typing
 pub mod Operations
 pub mod Parts
+pub mod Typing
+pub mod Placed
+pub mod Instructions
+pub mod Scopes
+pub mod Expressions
+pub mod Statements
+pub mod Assertions
+pub mod Main

@@ -1,5 +1,5 @@
 -- Variables have the slots of their depth: those of each scope are consecutive, from behind those of the scopes around it.
-use Rattle.std.proofs.Common.{◌≡◌, ℕ, zero, suc, ◌+◌, ◌*◌, ◌<◌, ◌≤◌, List, [], ◌∷◌, length, inl, refl, sym, ap, subst, ◌∙◌, arith}
+use Rattle.std.proofs.Common.{◌≡◌, ℕ, zero, suc, ◌+◌, ◌*◌, ◌≤◌, List, [], ◌∷◌, length, inl, refl, sym, ap, subst, ◌∙◌, arith}
 use Rattle.cx_code.specs.declared.image.Image.{Image}
 use Rattle.cx_code.specs.Operation.{operation_of}
 use Rattle.cx_emit.specs.Scopes.{IsOther, IsUnused, StandsEnds, StandsExit}

@@ -1,5 +1,5 @@
 -- Where the code of typed statements stands, it stands for them.
-use Rattle.std.proofs.Common.{◌≡◌, ℕ, zero, suc, ◌+◌, ◌-◌, ◌*◌, ◌≤◌, List, [], ◌∷◌, ◌++◌, length, Option, Some, inr, refl, sym, ap, subst, ◌∙◌, arith, length-append}
+use Rattle.std.proofs.Common.{◌≡◌, ℕ, ◌+◌, ◌-◌, ◌*◌, ◌≤◌, List, [], ◌∷◌, ◌++◌, length, Some, inr, refl, sym, ap, subst, ◌∙◌, arith, length-append}
 use Rattle.cx_code.specs.declared.image.Image.{Image}
 use Rattle.cx_code.specs.declared.operation.Operation.TheVariants as does
 use Rattle.cx_core.specs.declared.number.IntegerType.TheVariants as types
@@ -9,13 +9,13 @@ use Rattle.cx_core.specs.Tree as tree
 use Rattle.cx_core.specs.Tree.{scalar, Operand, value, Stmt, Stmts, empty, expression, variable_declaration, block, if_else, while_loop, contract_assert, return_value, done, next}
 use Rattle.cx_emit.specs.Checks.{IsAssertion, GoesOn}
 use Rattle.cx_emit.specs.Scopes.{Surroundings, inside, in_loop, slot_count, StandsEnds, StandsExit}
-use Rattle.cx_emit.specs.Statements.{behind, StandsDeclaration, StandsStmt, StandsStmts}
-use Rattle.cx_typed.specs.Typed.{Slots, Gives, IsListed, IsTyped, AreTyped, seen_behind}
+use Rattle.cx_emit.specs.Statements.{behind, StandsStmt, StandsStmts}
+use Rattle.cx_typed.specs.Typed.{Slots, IsListed, IsTyped, AreTyped, seen_behind}
 use Rattle.cx_lower.specs.Code.{jump, jump_zero, store, operand_code, truth_code, ends_code, live_behind, stmt_code, stmts_code, stmt_most, stmts_most}
 use Rattle.cx_lower.proofs.Operations.{make_is, get_is, store_is, jump_is, jump_zero_is}
 use Rattle.cx_lower.proofs.Parts.{HasCode, front, back}
 use Rattle.cx_lower.proofs.Typing.{declared, live_more, seen_length}
-use Rattle.cx_lower.proofs.Lengths.{length_ends}
+use Rattle.cx_lower.proofs.Placed.{length_ends}
 use Rattle.cx_lower.proofs.Scopes.{segment, AreSegments, is_unused, ends_stand, earlier, exit_stands}
 use Rattle.cx_lower.proofs.Expressions.{operand_stands, truth_stands, discarded_stands, check_stands}
 
@@ -47,6 +47,7 @@ module _ (image : Image) (function : ℕ) (assertions : List Assertion) (index :
 
   mutual
     unfolding StandsStmt stmt_code stmt_most IsTyped
+
     pub stmt_stands : (slots : Slots) (around : Surroundings) (now : List ℕ) (live from : ℕ) (s : Stmt) → live ≡ length slots → AreSegments live (now ∷ around.scopes) → around.exit ≡ exit → IsTyped assertions slots s → stmt_most live s ≤ most
         → HasCode image function from (stmt_code index exit live from s) → StandsStmt image function around now s from (from + length (stmt_code index exit live from s))
     stmt_stands slots around now live from empty is are leaves typed few h = omega arith

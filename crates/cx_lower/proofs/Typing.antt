@@ -31,6 +31,7 @@ live_more base count s = refl
 -- no fewer variables are visible inside a statement than before it
 mutual
   unfolding stmt_most
+
   pub live_within : (live : ℕ) (s : Stmt) → live ≤ stmt_most live s
   live_within live (variable_declaration slot type i) = omega arith
   live_within live (block b) = live_within_all live b

@@ -1,4 +1,4 @@
--- How long code is: its length doesn't depend on its place and on the place that it exits to.
+-- The length of code doesn't depend on its place and on the place that it exits to.
 use Rattle.std.proofs.Common.{◌≡◌, ℕ, zero, suc, ◌+◌, ◌-◌, ◌*◌, List, [], ◌∷◌, ◌++◌, length, refl, arith, length-append}
 use Rattle.cx_core.specs.Words.{Semantic}
 use Rattle.cx_core.specs.Tree.{Expr, putchar, Operand, value, Stmt, Stmts, expression, variable_declaration, block, if_else, while_loop, contract_assert, return_value, done, next}
@@ -26,6 +26,7 @@ same_times_length (suc k) semantic start other index a =
 module _ (index : List ℕ → ℕ) (exit leave : ℕ) where
   mutual
     unfolding stmt_code
+
     pub same_stmt_length : (live start other : ℕ) (s : Stmt) → length (stmt_code index exit live start s) ≡ length (stmt_code index leave live other s)
     same_stmt_length live start other (expression e) = same_discarded_length start other e
     same_stmt_length live start other (block b) = same_stmts_length live 0 start other b
@@ -41,8 +42,13 @@ module _ (index : List ℕ → ℕ) (exit leave : ℕ) where
         let else_code' = stmt_code index leave live else_other b in
         let behind' = jump (else_other + length else_code') ∷ else_code' in
         omega (
-          arith, same_stmt_length live then_start then_other a, same_stmt_length live else_start else_other b,
-          length-append (truth_code c) (jump_zero else_start ∷ (then_code ++ behind)), length-append (truth_code c) (jump_zero else_other ∷ (then_code' ++ behind')), length-append then_code behind, length-append then_code' behind',
+          arith,
+          same_stmt_length live then_start then_other a,
+          same_stmt_length live else_start else_other b,
+          length-append (truth_code c) (jump_zero else_start ∷ (then_code ++ behind)),
+          length-append (truth_code c) (jump_zero else_other ∷ (then_code' ++ behind')),
+          length-append then_code behind,
+          length-append then_code' behind',
         )
     same_stmt_length live start other (while_loop c body) =
         let body_start = start + 1 + length (truth_code c) + 1 in
@@ -50,9 +56,12 @@ module _ (index : List ℕ → ℕ) (exit leave : ℕ) where
         let body_other = other + 1 + length (truth_code c) + 1 in
         let body_code' = stmt_code index leave live body_other body in
         omega (
-          arith, same_stmt_length live body_start body_other body,
-          length-append (truth_code c) (jump_zero (body_start + length body_code + 1) ∷ (body_code ++ jump (start + 1) ∷ [])), length-append (truth_code c) (jump_zero (body_other + length body_code' + 1) ∷ (body_code' ++ jump (other + 1) ∷ [])),
-          length-append body_code (jump (start + 1) ∷ []), length-append body_code' (jump (other + 1) ∷ []),
+          arith,
+          same_stmt_length live body_start body_other body,
+          length-append (truth_code c) (jump_zero (body_start + length body_code + 1) ∷ (body_code ++ jump (start + 1) ∷ [])),
+          length-append (truth_code c) (jump_zero (body_other + length body_code' + 1) ∷ (body_code' ++ jump (other + 1) ∷ [])),
+          length-append body_code (jump (start + 1) ∷ []),
+          length-append body_code' (jump (other + 1) ∷ []),
         )
     same_stmt_length live start other (contract_assert c) = same_times_length c.times c.semantic start other (index c.assertion.name) c.predicate
     same_stmt_length live start other (return_value a) = omega (arith, length-append (operand_code a) (jump (exit - 2 * live) ∷ []), length-append (operand_code a) (jump (leave - 2 * live) ∷ []))
@@ -65,6 +74,9 @@ module _ (index : List ℕ → ℕ) (exit leave : ℕ) where
         let code = stmt_code index exit (base + count) start s in
         let code' = stmt_code index leave (base + count) other s in
         omega (
-          arith, same_stmt_length (base + count) start other s, same_stmts_length base (live_behind count s) (start + length code) (other + length code') rest,
-          length-append code (stmts_code index exit base (live_behind count s) (start + length code) rest), length-append code' (stmts_code index leave base (live_behind count s) (other + length code') rest),
+          arith,
+          same_stmt_length (base + count) start other s,
+          same_stmts_length base (live_behind count s) (start + length code) (other + length code') rest,
+          length-append code (stmts_code index exit base (live_behind count s) (start + length code) rest),
+          length-append code' (stmts_code index leave base (live_behind count s) (other + length code') rest),
         )
