@@ -2,5 +2,8 @@
 //! of the whole grammar.
 #![tactic(auto)]
 
+mod laws;
 mod names;
 mod typed;
+
+pub use laws::units_are_built;

@@ -1,0 +1,5 @@
+use Rattle.cx_front.proofs.Units.{units_are_built}
+use Rattle.cx_front.proofs.laws.units_are_built.Goals as goal
+
+pub returns : goal.returns
+returns c = units_are_built
