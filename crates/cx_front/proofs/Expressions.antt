@@ -1,10 +1,9 @@
 -- The expressions that are built are typed.
-use Rattle.std.proofs.Common.{◌≡◌, ℕ, suc, ◌+◌, ◌≤◌, ◌&&◌, Bool, true, false, if◌then◌else◌, cond, List, [], ◌∷◌, map, Option, Some, None, IfSome, slice_get, pos, nat_le, nat_eq, ◌==◌, ◌||◌, refl, subst, ⊎_elim, arith, lit≤}
+use Rattle.std.proofs.Common.{◌≡◌, ℕ, suc, ◌+◌, ◌≤◌, ◌&&◌, Bool, true, false, if◌then◌else◌, List, [], ◌∷◌, map, Option, Some, None, IfSome, slice_get, pos, nat_le, nat_eq, ◌==◌, ◌||◌, refl, subst, ⊎_elim, arith, lit≤}
 use Rattle.std.proofs.lemmas.Bool.{and_parts, or_cases, leb-true, le-leb, eqb-true, cond_both}
 use Rattle.std.proofs.lemmas.Option.{IfSome_then}
 use Rattle.cx_syntax.specs.declared.mark.Mark.{Mark}
 use Rattle.cx_syntax.specs.declared.mark.Mark.TheVariants as M
-use Rattle.cx_syntax.specs.declared.mark.Punct.{Punct}
 use Rattle.cx_syntax.specs.declared.mark.Word.{Word}
 use Rattle.cx_syntax.specs.declared.mark.Word.TheVariants as W
 use Rattle.cx_syntax.specs.Tree as grammar
@@ -21,7 +20,7 @@ use Rattle.cx_typed.specs.Typed.{Slots, greatest_int, IsRead, IsConverted, HasTy
 use Rattle.cx_front.specs.declared.names.Variable.{Variable}
 use Rattle.cx_front.specs.declared.names.Slot.{Slot}
 use Rattle.cx_front.specs.Literal.{is_decimal, decimal_value, int_value, escaped, char_value}
-use Rattle.cx_front.specs.Front.{Names, Typed, both, word_at, scalar_of, or_later, found_from, found, conversion, as_type, as_condition, prvalue, number_of, truth_of, variable_of, leaf_of, unary_operator, binary_operator, with_operand, with_both, with_operands, expr_in}
+use Rattle.cx_front.specs.Front.{Names, Typed, word_at, scalar_of, or_later, found_from, found, conversion, as_type, as_condition, number_of, truth_of, variable_of, leaf_of, unary_operator, binary_operator, with_operand, with_both, with_operands, expr_in}
 use Rattle.cx_front.proofs.Options.{both_is, map_is}
 
 -- the types of the variables

@@ -1,5 +1,5 @@
 -- What the definitions give on a program with a variable and a loop, written out.
-use Rattle.std.proofs.Common.{◌≡◌, ℕ, ◌+◌, ◌<◌, [], ◌∷◌, Some, None, pos, refl, codes, lit<}
+use Rattle.std.proofs.Common.{◌≡◌, ℕ, ◌+◌, [], ◌∷◌, Some, None, pos, refl, codes, lit<}
 use Rattle.cx_types.specs.declared.value_type.Scalar.TheVariants as scalars
 use Rattle.cx_syntax.specs.declared.token.TokenKind.{TokenKind}
 use Rattle.cx_syntax.specs.declared.token.TokenKind.TheVariants as kinds

@@ -22,10 +22,6 @@ module _ {C : Type 0} (R : C → Type 0) where
   typed_is f None h = tt
   typed_is f (Some t) h = h t
 
-
-
-
-
 pub only_some : {A : Type 0} (condition : Bool) (a : Option A) (x : A) → only_if condition a ≡ Some x → (condition ≡ true) × (a ≡ Some x)
 only_some true a x h = (refl, h)
 only_some false a x h = absurd (none-some x h)

@@ -1,5 +1,5 @@
 -- What the definitions give on a program with blocks, a hidden variable, conversions and assertions, written out; and what isn't built.
-use Rattle.std.proofs.Common.{◌≡◌, ℕ, ◌+◌, ◌<◌, List, [], ◌∷◌, Option, Some, None, pos, refl, codes, lit<}
+use Rattle.std.proofs.Common.{◌≡◌, ℕ, ◌+◌, List, [], ◌∷◌, Option, Some, None, pos, refl, codes, lit<}
 use Rattle.std.specs.Fmt.{digits}
 use Rattle.cx_types.specs.declared.value_type.Scalar.{Scalar}
 use Rattle.cx_types.specs.declared.value_type.Scalar.TheVariants as scalars

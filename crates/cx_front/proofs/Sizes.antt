@@ -1,5 +1,5 @@
 -- How many tokens a tree has, by what it is made into: its weight, its assertions and their comments.
-use Rattle.std.proofs.Common.{◌≡◌, ℕ, suc, ◌+◌, ◌*◌, ◌≤◌, ◌&&◌, Bool, true, false, not, List, [], ◌∷◌, ◌++◌, length, Option, Some, None, IfSome, option_map, slice_get, sum_by, All, refl, subst, arith, lit≤, length-append}
+use Rattle.std.proofs.Common.{◌≡◌, ℕ, suc, ◌+◌, ◌*◌, ◌≤◌, ◌&&◌, true, not, List, [], ◌∷◌, ◌++◌, length, Option, Some, None, IfSome, option_map, slice_get, sum_by, All, refl, arith, length-append}
 use Rattle.std.specs.List.{join_with_byte}
 use Rattle.std.proofs.lemmas.List.Elements.{All-head, All-tail, All-nil, All-cons, All-append}
 use Rattle.std.proofs.lemmas.List.Sums.{sum_by-append}
@@ -12,7 +12,7 @@ use Rattle.cx_syntax.specs.declared.mark.Word.{Word}
 use Rattle.cx_syntax.specs.declared.mark.Word.TheVariants as W
 use Rattle.cx_syntax.specs.Tree as grammar
 use Rattle.cx_syntax.specs.Tree.{Base, Local, Stars, TypeTree, asserts, block, branch, branches, call, args, one, class_base, compound, declare, empty, equals, evaluate, leaf, library_base, local, long_long, more_stmts, no_stars, no_stmts, paren, returns, star, type_tree, unsigned_int, unsigned_long_long, while_loop, word_base}
-use Rattle.cx_syntax.specs.Spell.{Spots, sign, word, name, if_word, if_sign, spell_base, spell_stars, spell_type, spell_expr, spell_args, spell_local, spell_stmt, spell_stmts}
+use Rattle.cx_syntax.specs.Spell.{Spots, sign, word, name, if_word, if_sign, spell_base, spell_stars, spell_type, spell_expr, spell_args, spell_stmt, spell_stmts}
 use Rattle.cx_includes.specs.declared.assembled.Assembled.{Assembled}
 use Rattle.cx_includes.specs.declared.assembled.Placed.{Placed}
 use Rattle.cx_core.specs.declared.number.IntegerType.{IntegerType}
@@ -25,7 +25,7 @@ use Rattle.cx_core.specs.Tree as core
 use Rattle.cx_core.specs.Tree.{Stmt, Stmts, done, next}
 use Rattle.cx_typed.specs.Weight.{expr_weight, stmt_weight, stmts_weight}
 use Rattle.cx_front.specs.declared.names.Slot.{Slot}
-use Rattle.cx_front.specs.Front.{Names, Typed, both, only_if, found, word_at, number_of, truth_of, variable_of, leaf_of, unary_operator, binary_operator, with_operand, with_both, with_operands, expr_in, words_in, comment_in, entry_at, statement_of_check, assigned, target_in, is_assign, is_putchar, argument_in, written, discarded_in, type_in, is_new, may_name, with_name, declared, initialised_in, of_type, declared_in, is_declaration, entries, assertions_in, all_assertions_in, names_after, with_last, if_of, while_of, return_of, stmt_in, stmts_in}
+use Rattle.cx_front.specs.Front.{Names, Typed, both, only_if, found, word_at, number_of, truth_of, variable_of, leaf_of, unary_operator, binary_operator, with_operand, with_operands, expr_in, words_in, comment_in, statement_of_check, assigned, target_in, is_assign, is_putchar, argument_in, written, discarded_in, type_in, is_new, may_name, with_name, declared, initialised_in, of_type, declared_in, is_declaration, assertions_in, all_assertions_in, names_after, with_last, if_of, while_of, return_of, stmt_in, stmts_in}
 use Rattle.cx_front.proofs.Options.{both_is, map_is, only_is, typed_is}
 
 -- ---- words
@@ -315,6 +315,7 @@ module _ (semantic : Semantic) (list : Assembled) where
 
     mutual
       unfolding stmt_in assertions_in stmt_weight
+
       pub stmt_sized : (ordinal base : ℕ) (names : Names) (t : grammar.Stmt) → IfSome (stmt_in semantic list ordinal base names t) (IsSizedStatement ordinal t)
       stmt_sized ordinal base names (empty i) = plain_sized ordinal (empty i) (Some core.empty) refl (λ w. omega arith)
       stmt_sized ordinal base names (compound (block i b j)) =

@@ -1,5 +1,5 @@
 -- The statements that are built are typed.
-use Rattle.std.proofs.Common.{◌≡◌, ◌⊎◌, option_map, ℕ, ◌+◌, ◌&&◌, Bool, true, false, not, List, [], ◌∷◌, ◌++◌, map, length, Option, Some, None, IfSome, slice_get, refl, sym, ap, ◌∙◌, subst, inl, inr}
+use Rattle.std.proofs.Common.{◌≡◌, ◌⊎◌, option_map, ℕ, ◌+◌, ◌&&◌, Bool, true, false, not, List, [], ◌∷◌, ◌++◌, length, Option, Some, None, IfSome, slice_get, refl, sym, ap, ◌∙◌, subst, inl, inr}
 use Rattle.std.specs.List.{AllByRecursion}
 use Rattle.std.proofs.lemmas.Bool.{not-true, true≢false}
 use Rattle.std.proofs.lemmas.List.{length-map, map-append}
@@ -19,8 +19,8 @@ use Rattle.cx_core.specs.Tree.{Operand, Stmt, Stmts, done, next}
 use Rattle.cx_typed.specs.Typed.{Slots, Gives, IsCondition, IsListed, IsTypedDeclaration, IsTyped, AreTyped, with_slot, seen_behind}
 use Rattle.cx_front.specs.declared.names.Variable.{Variable}
 use Rattle.cx_front.specs.declared.names.Slot.{Slot}
-use Rattle.cx_front.specs.Front.{Names, Typed, both, only_if, found, scalar_of, as_type, as_condition, expr_in, entry_at, check_of, statement_of_check, assigned, target_in, is_assign, is_putchar, argument_in, written, discarded_in, type_in, is_new, may_name, word_at, with_name, declared, initialised_in, of_type, declared_in, with_typed_name, names_behind, is_declaration, entries, assertions_in, all_assertions_in, names_after, with_last, if_of, while_of, return_of, stmt_in, stmts_in}
-use Rattle.cx_front.proofs.Options.{both_is, map_is, only_is, typed_is}
+use Rattle.cx_front.specs.Front.{Names, Typed, both, only_if, found, as_type, as_condition, expr_in, entry_at, statement_of_check, assigned, target_in, is_assign, is_putchar, argument_in, written, discarded_in, type_in, is_new, may_name, word_at, with_name, declared, initialised_in, of_type, declared_in, with_typed_name, names_behind, is_declaration, entries, assertions_in, all_assertions_in, names_after, with_last, if_of, while_of, return_of, stmt_in, stmts_in}
+use Rattle.cx_front.proofs.Options.{both_is, map_is, only_is}
 use Rattle.cx_front.proofs.Expressions.{slots_of, IsTypedAs, IsSlot, found_is, integer_is, gives_type, is_condition, expr_is}
 
 -- ---- lists of what is listed
@@ -239,6 +239,7 @@ module _ (semantic : Semantic) (list : Assembled) (table : List Assertion) where
 
   mutual
     unfolding stmt_in IsTyped seen_after
+
     pub stmt_is : (ordinal base : ℕ) (names : Names) (t : grammar.Stmt) → IfSome (stmt_in semantic list ordinal base names t) (IsStatement names ordinal t)
     stmt_is ordinal base names (empty i) = record { typed = λ _. tt; seen = refl; scope = refl }
     stmt_is ordinal base names (compound (block i b j)) =

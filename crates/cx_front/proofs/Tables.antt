@@ -50,6 +50,7 @@ module _ (list : Assembled) (short : All HasShortName list.files) where
 
   mutual
     unfolding assertions_in
+
     pub files_are_short : (ordinal : ℕ) (s : grammar.Stmt) → All HasShortFile (assertions_in list ordinal s)
     files_are_short ordinal (compound (block i b j)) = all_files_are_short ordinal b
     files_are_short ordinal (branch i j c k a) = files_are_short ordinal a
@@ -81,6 +82,7 @@ module _ (list : Assembled) where
 
   mutual
     unfolding assertions_in
+
     pub are_numbered : (ordinal : ℕ) (s : grammar.Stmt) → AreNumbered ordinal (assertions_in list ordinal s)
     are_numbered ordinal (compound (block i b j)) = all_are_numbered ordinal b
     are_numbered ordinal (branch i j c k a) = are_numbered ordinal a

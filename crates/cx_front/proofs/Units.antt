@@ -1,6 +1,5 @@
 -- The unit of a tree is one that is lowered.
-use Rattle.std.proofs.Common.{◌≡◌, ℕ, suc, ◌+◌, ◌*◌, ◌≤◌, ◌&&◌, Bool, true, List, [], ◌∷◌, length, Option, Some, None, IfSome, slice_get, get_or, sum_by, All, codes, bytes_eq, refl, sym, ap, ◌∙◌, subst, arith}
-use Rattle.std.specs.List.{AllByRecursion}
+use Rattle.std.proofs.Common.{◌≡◌, ℕ, suc, ◌≤◌, ◌&&◌, true, List, [], ◌∷◌, length, Option, Some, None, IfSome, get_or, All, codes, bytes_eq, refl, sym, ap, ◌∙◌, subst, arith}
 use Rattle.std.proofs.lemmas.Bool.{and_parts}
 use Rattle.std.proofs.lemmas.List.{length-map}
 use Rattle.std.proofs.lemmas.List.Elements.{recursion_from_All}
@@ -14,19 +13,16 @@ use Rattle.cx_includes.specs.declared.assembled.Assembled.{Assembled}
 use Rattle.cx_faults.specs.Faults.{marks_of, tokens_of, token_at}
 use Rattle.cx_core.specs.declared.unit.CoreUnit.{CoreUnit}
 use Rattle.cx_core.specs.declared.unit.Assertion.{Assertion}
-use Rattle.cx_core.specs.declared.statement.Statement.{Statement}
 use Rattle.cx_core.specs.Words.{Semantic, Enforce}
 use Rattle.cx_core.specs.Linked.{assertion_of}
-use Rattle.cx_core.specs.Tree.{Stmts}
 use Rattle.cx_typed.specs.Typed.{IsListed, AreTyped}
-use Rattle.cx_typed.specs.Weight.{stmts_weight}
-use Rattle.cx_typed.specs.Unit.{body_of, AreNumbered}
+use Rattle.cx_typed.specs.Unit.{body_of}
 use Rattle.cx_typed.specs.Built.{IsBuilt}
-use Rattle.cx_front.specs.Front.{word_at, name_of_file, type_in, all_assertions_in, stmts_in, is_int, is_empty, is_bare, main_in, statements_in, has_short_tokens, body_in, table_in, IsUnitOf, most_tokens}
+use Rattle.cx_front.specs.Front.{word_at, type_in, all_assertions_in, stmts_in, is_int, is_empty, is_bare, main_in, statements_in, has_short_tokens, body_in, table_in, IsUnitOf, most_tokens}
 use Rattle.cx_front.specs.Laws.{UnitsAreBuilt}
 use Rattle.cx_front.proofs.Options.{only_is, only_some}
 use Rattle.cx_front.proofs.Statements.{AreListed, AreStatements, stmts_are}
-use Rattle.cx_front.proofs.Sizes.{AreSizedStatements, comment_length, type_grows, stmts_sized}
+use Rattle.cx_front.proofs.Sizes.{AreSizedStatements, type_grows, stmts_sized}
 use Rattle.cx_front.proofs.Tables.{HasShortName, name_is_short, words_are_short, all_files_are_short, all_are_numbered}
 
 -- ---- how many tokens the statements have
@@ -83,9 +79,9 @@ module _ (list : Assembled) (unit : CoreUnit) (short : All HasShortName list.fil
       let size : length (spell is.tree) ≡ length list.placed = ap (λ (w : Spots). length w) is.is_tree.1 ∙ length_numbered 0 (marks_of list) ∙ length_marks list in
       let inside : HasFew (length (spell is.tree)) b = MatchOption-at_some _ _ b e (statements_are_few list is.tree) in
       let typed : (semantic : Semantic) → AreStatements semantic list table [] 1 b (body_of semantic unit is.statements) =
-          λ semantic. MatchOption-at_some _ _ (body_of semantic unit is.statements) (made b e semantic).1 (stmts_are semantic list table 1 0 [] b) in
+      λ semantic. MatchOption-at_some _ _ (body_of semantic unit is.statements) (made b e semantic).1 (stmts_are semantic list table 1 0 [] b) in
       let sized : (semantic : Semantic) → AreSizedStatements semantic list 1 b (body_of semantic unit is.statements) =
-          λ semantic. MatchOption-at_some _ _ (body_of semantic unit is.statements) (made b e semantic).1 (stmts_sized semantic list (words_are_short list (made b e semantic).0) 1 0 [] b) in
+      λ semantic. MatchOption-at_some _ _ (body_of semantic unit is.statements) (made b e semantic).1 (stmts_sized semantic list (words_are_short list (made b e semantic).0) 1 0 [] b) in
       record {
         alone = is.alone;
         typed = λ semantic. subst (λ (assertions : List Assertion). AreTyped assertions [] (body_of semantic unit is.statements)) (sym its) ((typed semantic).typed (listed_in_itself table));
