@@ -1,0 +1,7 @@
+pub mod Comes
+pub mod Ranges
+pub mod Objects
+pub mod States
+pub mod Scopes
+pub mod Expressions
+pub mod Checks
