@@ -5,3 +5,4 @@ pub mod States
 pub mod Scopes
 pub mod Expressions
 pub mod Checks
+pub mod Statements
