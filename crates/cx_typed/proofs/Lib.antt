@@ -6,3 +6,4 @@ pub mod Scopes
 pub mod Expressions
 pub mod Checks
 pub mod Statements
+pub mod Whole

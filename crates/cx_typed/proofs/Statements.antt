@@ -36,7 +36,7 @@ IsLeft completion = ⊥
 abbrev pub Leads : {A : Type 0} → (A → Type 0) → (before behind : Slots) → Does A → Type 0
 Leads P before behind m = Comes (Typed before) (With P (Typed behind)) m
 
-then_leads : {A B : Type 0} (before between behind : Slots) {P : B → Type 0} {m : Does A} {next : A → Does B} (Q : A → Type 0)
+pub then_leads : {A B : Type 0} (before between behind : Slots) {P : B → Type 0} {m : Does A} {next : A → Does B} (Q : A → Type 0)
     → Leads Q before between m → ((a : A) → Q a → Leads P between behind (next a)) → Leads P before behind (m >>= next)
 then_leads before between behind Q h k = then_comes (Typed between) Q throws h k
 
