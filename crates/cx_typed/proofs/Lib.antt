@@ -7,3 +7,5 @@ pub mod Expressions
 pub mod Checks
 pub mod Statements
 pub mod Whole
+pub mod Units
+pub mod Images
