@@ -9,3 +9,4 @@ pub mod Statements
 pub mod Whole
 pub mod Units
 pub mod Images
+mod Examples
