@@ -5,14 +5,13 @@ use Rattle.std.proofs.lemmas.List.Elements.{All-nil, All-cons, All-head, All-tai
 use Rattle.cx_core.specs.declared.number.IntegerType.{IntegerType}
 use Rattle.cx_core.specs.Words.{Party, Semantic, Ignore, Observe, Enforce, QuickEnforce, False, Holds, PredicateFalse, Violation, ContractTerminated}
 use Rattle.cx_core.specs.Tree.{Check, Assertion, Operand}
-use Rattle.cx_core.specs.Store.{Value}
 use Rattle.cx_core.specs.Event.{Evaluation, Event, same_evaluation, verdict, handler, Answer, ended, not_a_run}
 use Rattle.cx_core.specs.Outcome.{Does, Nothing, nothing, skip, ◌>>=◌, ◌>>◌, spend, append, ends}
-use Rattle.cx_core.specs.Block.{Owed, Continued, has_stood, once_less, behind, continued, if_permitted, next_told, begin_told, evaluations}
+use Rattle.cx_core.specs.Block.{Owed, Continued, has_stood, once_less, behind, continued, if_permitted, begin_told, evaluations}
 use Rattle.cx_core.specs.Check.{truth, handle_by, handle, violated, verdict_on, verdict_threw, evaluation, violation_of}
 use Rattle.cx_core.specs.Program.{Program}
 use Rattle.cx_core.specs.Leaving.{Calls}
-use Rattle.cx_core.specs.Meaning.{evaluated, used, owed, checked}
+use Rattle.cx_core.specs.Meaning.{evaluated, owed, checked}
 use Rattle.cx_typed.specs.Typed.{Slots, Gives, IsCondition}
 use Rattle.cx_typed.proofs.Comes.{IsEnd, With, Always, then_comes, ends_come, append_comes, next_told_comes, begin_told_comes}
 use Rattle.cx_typed.proofs.Objects.{Types, IsIn}

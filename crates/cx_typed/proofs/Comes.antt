@@ -1,8 +1,8 @@
 -- What a part of a run comes to: a value and a state of a property, or an end that a well made program may have; and how parts go together.
-use Rattle.std.proofs.Common.{◌≡◌, zero, suc, ℕ, List, [], ◌∷◌, Option, Some, None, Bool, true, false, if◌then◌else◌}
+use Rattle.std.proofs.Common.{zero, suc, ℕ, List, [], ◌∷◌, Bool, true, false, if◌then◌else◌}
 use Rattle.cx_core.specs.Words.{Kind, Mixed, ContractTerminated, Undefined}
 use Rattle.cx_core.specs.Event.{Evaluation, Event, begin, Answer, ended}
-use Rattle.cx_core.specs.Outcome.{Exception, State, Outcome, on, thrown, over, Does, Nothing, after, either, gives, throws, ends, append, spend, spend_of}
+use Rattle.cx_core.specs.Outcome.{Exception, State, Outcome, on, thrown, over, Does, after, either, gives, ends, append, spend, spend_of}
 use Rattle.cx_core.specs.Block.{next_told, next_of, begin_told, begin_of}
 
 -- a kind of undefined behaviour that a well made program may have

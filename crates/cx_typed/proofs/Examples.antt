@@ -14,12 +14,12 @@ use Rattle.cx_core.specs.declared.number.BinaryOperator.TheVariants as operators
 use Rattle.cx_core.specs.declared.unit.Assertion.{Assertion}
 use Rattle.cx_core.specs.Words.{Assert, Definer, Enforce, Holds, Returned, Undefined, Unset}
 use Rattle.cx_core.specs.Event.{Evaluation, out, begin, verdict, ended}
-use Rattle.cx_core.specs.Tree.{scalar, Stmt, Stmts, next, done, expression, variable_declaration, block, while_loop, contract_assert, return_value, Operand, operand, Expr, literal, variable, binary, assign, putchar, value, number}
+use Rattle.cx_core.specs.Tree.{scalar, Stmts, next, done, expression, variable_declaration, block, while_loop, contract_assert, return_value, Operand, operand, Expr, literal, variable, binary, assign, putchar, value, number}
 use Rattle.cx_core.specs.Program.{Program, function, exit_status}
 use Rattle.cx_core.specs.Meaning.{mean, running}
 use Rattle.cx_core.specs.Linked.{assertion_of}
-use Rattle.cx_emit.specs.Units.{IsMain, no_checks}
-use Rattle.cx_typed.specs.Typed.{Gives, IsCondition, IsTyped, AreTyped}
+use Rattle.cx_emit.specs.Units.{no_checks}
+use Rattle.cx_typed.specs.Typed.{Gives, IsCondition, AreTyped}
 
 abbrev plain : Expr → Operand
 plain e = operand None None e
@@ -66,10 +66,16 @@ loop_is_typed : AreTyped (assertion ∷ []) (types.Int ∷ []) body_of_loop
 unfolding AreTyped Gives
 loop_is_typed = (
   (inr refl, (0, assertion, refl, refl), x_is_compared),
-  ((refl, (types.Int, (refl, refl, (types.Int, (refl, refl), refl), (types.Int, (omega arith, refl), refl)), refl)),
-  ((types.Char, (refl, refl), refl),
-  ((types.Int, refl, (types.Int, (refl, refl, (types.Char, (refl, refl), refl), (types.Int, (omega arith, refl), refl)), refl)),
-  tt {0})))
+  (
+    (refl, (types.Int, (refl, refl, (types.Int, (refl, refl), refl), (types.Int, (omega arith, refl), refl)), refl)),
+    (
+      (types.Char, (refl, refl), refl),
+      (
+        (types.Int, refl, (types.Int, (refl, refl, (types.Char, (refl, refl), refl), (types.Int, (omega arith, refl), refl)), refl)),
+        tt {0},
+      ),
+    ),
+  ),
 )
 
 is_typed : AreTyped (assertion ∷ []) [] body

@@ -1,5 +1,5 @@
 -- A typed expression gives a number in the range of its type, and leaves a typed state typed.
-use Rattle.std.proofs.Common.{◌≡◌, refl, sym, ap, ◌∙◌, subst, ℕ, ℤ, pos, negsuc, Bool, true, false, if◌then◌else◌, List, [], ◌∷◌, Option, Some, None, Result, Ok, Err}
+use Rattle.std.proofs.Common.{◌≡◌, refl, sym, subst, ℕ, ℤ, pos, Bool, true, false, if◌then◌else◌, Option, Some, None, Result, Ok, Err}
 use Rattle.std.specs.Prelude.{slice_get}
 use Rattle.cx_types.specs.declared.value_type.Scalar.{Scalar}
 use Rattle.cx_core.specs.declared.number.IntegerType.{IntegerType}
@@ -12,13 +12,13 @@ use Rattle.cx_core.specs.Tree as tree
 use Rattle.cx_core.specs.Tree.{ObjectType, scalar, Expr, literal, variable, unary, binary, Operand, operand}
 use Rattle.cx_core.specs.Store.{Value, number, address, null, violation}
 use Rattle.cx_core.specs.Event.{ended}
-use Rattle.cx_core.specs.Outcome.{State, Does, ◌>>=◌, throws, spend, gives, some, undefined, place_of}
+use Rattle.cx_core.specs.Outcome.{Does, ◌>>=◌, throws, spend, gives, some, undefined, place_of}
 use Rattle.cx_core.specs.Program.{Program}
 use Rattle.cx_core.specs.Leaving.{Calls}
 use Rattle.cx_core.specs.Check.{truth}
-use Rattle.cx_core.specs.Operators.{integer_of, fits_integer, fits, fitting, read_as, converted_to, converted, number_given, of_type, operands_fit, operated, unary_operation, binary_operation}
+use Rattle.cx_core.specs.Operators.{integer_of, fits_integer, fits, fitting, read_as, converted_to, number_given, of_type, operands_fit, operated, unary_operation, binary_operation}
 use Rattle.cx_core.specs.Meaning.{expr, used}
-use Rattle.cx_typed.specs.Typed.{Slots, unary_type, binary_type, IsRead, IsConverted, HasType, Gives}
+use Rattle.cx_typed.specs.Typed.{Slots, binary_type, IsRead, IsConverted, HasType, Gives}
 use Rattle.cx_typed.proofs.Comes.{IsProper, Comes, With, Always, then_comes, gives_comes, ends_come, spend_comes}
 use Rattle.cx_typed.proofs.Ranges.{GivesIn, converted_in_range, unary_in_range, operands_in_range_fit, typed_in_range}
 use Rattle.cx_typed.proofs.Objects.{Types, IsIn, IsPlace}
@@ -133,6 +133,7 @@ module _ (types : Types) (slots : Slots) where
 
     mutual
       unfolding expr HasType
+
       pub expr_keeps : (e : Expr) (type : IntegerType) → HasType slots e type → Keeps (IsIn type) (expr program calls e)
       expr_keeps (literal (tree.number (pos n))) type h = then_keeps Always spend_keeps (λ _ _. gives_keeps (IsIn type) (number (pos n)) h.1)
       expr_keeps (unary operator computed a) type h = subst (λ t. Keeps (IsIn t) (unary_operation operator computed (used program calls a))) (sym h.1) (unary_keeps operator computed _ (used_keeps a computed h.2))

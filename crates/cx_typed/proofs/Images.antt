@@ -1,5 +1,5 @@
 -- Images that stand for units of `main` alone with typed statements are faithful.
-use Rattle.std.proofs.Common.{◌≡◌, sym, ap, ◌∙◌, subst, List, [], ◌∷◌, length, ◌+◌}
+use Rattle.std.proofs.Common.{◌≡◌, sym, ap, ◌∙◌, subst, List, [], length, ◌+◌}
 use Rattle.cx_code.specs.declared.image.Image.{Image}
 use Rattle.cx_code.specs.declared.image.GlobalEntry.{GlobalEntry}
 use Rattle.cx_code.specs.Store.{nothing_made}

@@ -1,28 +1,26 @@
 -- A typed statement leaves a typed state typed, with the variables that are visible behind it, and is left for the next one or by a `return` of a number of `int`.
-use Rattle.std.proofs.Common.{◌≡◌, sym, subst, ℕ, zero, suc, Bool, true, false, if◌then◌else◌, List, [], ◌∷◌, ◌++◌, length, Option, Some, None}
-use Rattle.std.specs.Prelude.{slice_get, pos, ℤ}
+use Rattle.std.proofs.Common.{◌≡◌, ℕ, zero, suc, Bool, List, [], ◌∷◌, ◌++◌, length, Option, Some, None}
 use Rattle.cx_types.specs.declared.value_type.Scalar.{Scalar}
 use Rattle.cx_core.specs.declared.number.IntegerType.{IntegerType}
 use Rattle.cx_core.specs.declared.number.IntegerType.TheVariants as integers
 use Rattle.cx_core.specs.declared.unit.Assertion.{Assertion}
 use Rattle.cx_core.specs.Words.{Definer}
-use Rattle.cx_core.specs.Number.{in_range}
-use Rattle.cx_core.specs.Tree.{ObjectType, scalar, pointer, class, Expr, variable, assign, putchar, Operand, Init, value, Stmt, Stmts, empty, expression, variable_declaration, block, if_else, while_loop, contract_assert, return_value, done, next}
+use Rattle.cx_core.specs.Tree.{scalar, Expr, variable, assign, putchar, Operand, value, Stmt, Stmts, empty, expression, variable_declaration, block, if_else, while_loop, contract_assert, return_value, done, next}
 use Rattle.cx_core.specs.Store.{Address, Value, number, address, null, violation}
 use Rattle.cx_core.specs.Event.{out, going}
-use Rattle.cx_core.specs.Outcome.{whole, Frame, State, Does, Nothing, nothing, ◌>>=◌, ◌>>◌, either, gives, throws, ends, skip, some, spend, append, current_frame, keep, write}
+use Rattle.cx_core.specs.Outcome.{whole, Frame, State, Does, Nothing, nothing, ◌>>=◌, ◌>>◌, gives, throws, skip, some, current_frame, keep}
 use Rattle.cx_core.specs.Program.{Program}
 use Rattle.cx_core.specs.Leaving.{Calls, full_expression, object}
 use Rattle.cx_core.specs.Check.{truth}
 use Rattle.cx_core.specs.Operators.{integer_of, bind, number_of, stored, assignment}
 use Rattle.cx_core.specs.Library.{byte_of, putchar_call}
 use Rattle.cx_core.specs.Statements.{Completion, on_to_next, break, continue, return, completed, sequence, after_turn, turns, loop, variable_of}
-use Rattle.cx_core.specs.Meaning.{object_place, expr, used, init, evaluated, checked, result_stored, returned, stmt, stmts}
-use Rattle.cx_typed.specs.Typed.{Slots, with_slot, seen_behind, Gives, HasType, IsCondition, IsTypedDiscarded, IsTypedDeclaration, IsTyped, AreTyped}
+use Rattle.cx_core.specs.Meaning.{object_place, expr, init, evaluated, result_stored, returned, stmt, stmts}
+use Rattle.cx_typed.specs.Typed.{Slots, with_slot, seen_behind, Gives, IsCondition, IsTypedDiscarded, IsTypedDeclaration, IsTyped, AreTyped}
 use Rattle.cx_typed.proofs.Comes.{Comes, With, Always, comes_less, either_comes, then_comes, gives_comes, ends_come, if_comes, spend_comes, append_comes}
 use Rattle.cx_typed.proofs.Objects.{Types, IsIn, IsPlace}
 use Rattle.cx_typed.proofs.States.{TypedBy, Typed, Made, typed_by, typed, some_comes, made_comes, fewer, write_comes, make_comes, bind_comes, keep_comes}
-use Rattle.cx_typed.proofs.Scopes.{end_lifetime_comes, scope_comes, full_expression_comes}
+use Rattle.cx_typed.proofs.Scopes.{scope_comes, full_expression_comes}
 use Rattle.cx_typed.proofs.Expressions.{Keeps, then_keeps, gives_keeps, spend_keeps, place_keeps, variable_keeps, used_keeps}
 use Rattle.cx_typed.proofs.Checks.{condition_keeps, check_keeps}
 
@@ -183,6 +181,7 @@ module _ (program : Program) (calls : Calls) where
 
     mutual
       unfolding stmt IsTyped
+
       pub stmt_leads : (s : Stmt) (slots : Slots) → IsTyped assertions slots s → Leads IsLeft slots (seen_behind slots s) (stmt program calls s)
       stmt_leads empty slots h = gives_comes (Typed slots) IsLeft on_to_next (tt {0})
       stmt_leads (expression e) slots h = completed_leads slots slots _ (some_comes Always slots _ (λ types. discarded_keeps types slots e h))

@@ -1,20 +1,20 @@
 -- A state is typed by the types of its objects: each visible variable denotes an object of its type, the objects hold numbers of their types, and only scalars are to be ended. Names, places and objects keep this.
-use Rattle.std.proofs.Common.{◌≡◌, refl, sym, ap, ◌∙◌, subst, ℕ, zero, suc, ◌<◌, nat_eq, Bool, true, false, if◌then◌else◌, List, [], ◌∷◌, ◌++◌, length, Option, Some, None, Result, Ok, Err, ◌⊎◌, inl, inr, arith}
+use Rattle.std.proofs.Common.{◌≡◌, refl, sym, ◌∙◌, subst, ℕ, zero, suc, ◌<◌, nat_eq, Bool, true, false, if◌then◌else◌, List, [], ◌∷◌, ◌++◌, length, Option, Some, None, Result, Ok, Err, ◌⊎◌, inl, inr, arith}
 use Rattle.std.specs.Prelude.{slice_get}
 use Rattle.std.specs.List.{All}
 use Rattle.std.proofs.lemmas.Bool.Decides.{eqb_tells}
 use Rattle.std.proofs.lemmas.List.Elements.{All-cons}
 use Rattle.cx_core.specs.declared.number.IntegerType.{IntegerType}
-use Rattle.cx_core.specs.Words.{Kind, Mixed, Undefined}
+use Rattle.cx_core.specs.Words.{Kind, Undefined}
 use Rattle.cx_core.specs.Tree.{scalar}
-use Rattle.cx_core.specs.Store.{Address, Value, address, Leaf, Store, leaf_at, value_of, without, written}
+use Rattle.cx_core.specs.Store.{Address, Value, address, Store, leaf_at, value_of, without, written}
 use Rattle.cx_core.specs.Event.{ended}
-use Rattle.cx_core.specs.Outcome.{Living, whole, Frame, State, Outcome, on, thrown, over, Does, Nothing, nothing, either, gives, throws, ends, some, defined, current_frame, set_frame, current_store, current_living, set_living, make, remove, keep, read, write, with_store}
+use Rattle.cx_core.specs.Outcome.{Living, whole, Frame, State, Outcome, on, thrown, over, Does, either, some, defined, current_frame, set_frame, current_store, current_living, set_living, make, keep, read, write, with_store}
 use Rattle.cx_core.specs.Operators.{denoted, bind, named}
 use Rattle.cx_core.specs.Meaning.{object_place}
 use Rattle.cx_typed.specs.Typed.{Slots}
-use Rattle.cx_typed.proofs.Comes.{Comes, ComesTo, With, Always, IsOfObjects, then_comes, gives_comes, ends_come}
-use Rattle.cx_typed.proofs.Objects.{Types, IsIn, IsLeafOf, IsObjectOf, IsPlace, Denotes, IsValueOf, AreObjects, read_is, written_are, others_are, typed_at, typed_itself, denotes_more, made_are}
+use Rattle.cx_typed.proofs.Comes.{Comes, ComesTo, With, Always, IsOfObjects, gives_comes, ends_come}
+use Rattle.cx_typed.proofs.Objects.{Types, IsIn, IsObjectOf, IsPlace, Denotes, IsValueOf, AreObjects, read_is, written_are, others_are, typed_at, typed_itself, denotes_more, made_are}
 
 -- an object with a number that ends without a call
 abbrev pub IsScalar : Living → Type 0
@@ -129,14 +129,16 @@ last_or_before (first ∷ slots) last (suc k) type e =
 -- what is visible behind a variable's scope
 pub fewer : (slots : Slots) (last : IntegerType) (s : State) → Typed (slots ++ last ∷ []) s → Typed slots s
 fewer slots last s i =
-    let t = i.1 in
-    (i.0, record {
-      no_result = t.no_result;
-      variables = λ slot type e. t.variables slot type (slot_kept slots last slot type e);
-      objects = t.objects;
-      are_scalars = t.are_scalars;
-      temporaries_are_scalars = t.temporaries_are_scalars;
-    })
+    let t = i.1 in (
+      i.0,
+      record {
+        no_result = t.no_result;
+        variables = λ slot type e. t.variables slot type (slot_kept slots last slot type e);
+        objects = t.objects;
+        are_scalars = t.are_scalars;
+        temporaries_are_scalars = t.temporaries_are_scalars;
+      },
+    )
 
 made : (slots : Slots) (type : IntegerType) (leaves : ℕ) (s : State) (types : Types) → TypedBy types slots s → ComesTo (Made slots type) (make leaves s)
 unfolding make
@@ -150,7 +152,7 @@ made slots type leaves s types t = (
     temporaries_are_scalars = t.temporaries_are_scalars;
   },
   typed_itself types s.next type,
-  omega arith
+  omega arith,
 )
 
 pub make_comes : (slots : Slots) (type : IntegerType) (leaves : ℕ) → Comes (Typed slots) (Made slots type) (make leaves)

@@ -1,5 +1,5 @@
 -- The program of a unit that defines `main` and nothing else.
-use Rattle.std.proofs.Common.{◌≡◌, refl, sym, ap, subst, List, [], ◌∷◌, Option, Some, None}
+use Rattle.std.proofs.Common.{◌≡◌, refl, sym, subst, List, [], ◌∷◌, Option, Some, None}
 use Rattle.std.specs.Prelude.{ℕ, codes}
 use Rattle.cx_core.specs.declared.unit.CoreUnit.{CoreUnit}
 use Rattle.cx_core.specs.declared.unit.Class.{Class}
@@ -14,7 +14,7 @@ use Rattle.cx_core.specs.declared.statement.Statement.{Statement}
 use Rattle.cx_core.specs.Words.{Semantic}
 use Rattle.cx_core.specs.Linked.{linked}
 use Rattle.cx_emit.specs.Units.{IsMain}
-use Rattle.cx_typed.specs.Unit.{program_of, body_of, HasStatements, IsMainAlone}
+use Rattle.cx_typed.specs.Unit.{program_of, body_of, HasStatements}
 use Rattle.cx_typed.specs.Laws.{UnitsOfMainHaveItsProgram}
 
 abbrev HasProgram : Semantic → CoreUnit → List Statement → Type 0

@@ -1,24 +1,23 @@
 -- A program of `main` alone with typed statements is well made.
-use Rattle.std.proofs.Common.{◌≡◌, ◌≢◌, refl, sym, ap, subst, ℕ, ◌+◌, ℤ, pos, Bool, true, false, if◌then◌else◌, List, [], ◌∷◌, length, Option, Some, None}
+use Rattle.std.proofs.Common.{◌≡◌, ◌≢◌, refl, sym, subst, ℕ, ◌+◌, ℤ, pos, Bool, true, false, List, [], length, Option, Some, None}
 use Rattle.std.specs.Prelude.{slice_get}
 use Rattle.std.specs.List.{All}
 use Rattle.std.proofs.lemmas.List.Elements.{All-nil}
 use Rattle.cx_core.specs.declared.number.IntegerType.{IntegerType}
 use Rattle.cx_core.specs.declared.number.IntegerType.TheVariants as integers
 use Rattle.cx_core.specs.declared.unit.Assertion.{Assertion}
-use Rattle.cx_core.specs.Words.{Definer, Caller, Returned, Undefined, Mixed}
+use Rattle.cx_core.specs.Words.{Caller, Returned, Undefined, Mixed}
 use Rattle.cx_core.specs.Number.{in_range}
 use Rattle.cx_core.specs.Tree.{Stmts, Constant}
-use Rattle.cx_core.specs.Store.{Value, number, address, null, violation, Store}
+use Rattle.cx_core.specs.Store.{Value, number, address, null, violation}
 use Rattle.cx_core.specs.Event.{Evaluation, ended}
-use Rattle.cx_core.specs.Outcome.{nothing, Frame, State, Outcome, on, thrown, over, Does, Nothing, ◌>>=◌, ◌>>◌, either, gives, throws, ends, spend, some, edge, undone_by, current_frame, set_frame}
+use Rattle.cx_core.specs.Outcome.{nothing, Frame, State, Outcome, on, thrown, over, Does, ◌>>=◌, ◌>>◌, either, gives, throws, some, current_frame, set_frame}
 use Rattle.cx_core.specs.Block.{evaluations}
 use Rattle.cx_core.specs.Program as source
 use Rattle.cx_core.specs.Program.{Program, Function, Checks, exit_status}
-use Rattle.cx_core.specs.Leaving.{Call, Calls, edge_if, within, in_unit}
+use Rattle.cx_core.specs.Leaving.{Calls, edge_if, within, in_unit}
 use Rattle.cx_core.specs.Statements.{Completion, on_to_next, break, continue, return}
-use Rattle.cx_core.specs.Meaning.{meaning_of, mean, mean_within, start, main_call, globals_from, calls_within, implicit_within, active, acting, function_call, preconditions, postconditions, caller_checks, checked, body, value_given, unit_of}
-use Rattle.cx_simulation.specs.Parts.{IsWellMade}
+use Rattle.cx_core.specs.Meaning.{meaning_of, mean, mean_within, start, main_call, globals_from, calls_within, implicit_within, active, acting, function_call, preconditions, postconditions, checked, body, value_given, unit_of}
 use Rattle.cx_emit.specs.Units.{IsMain, no_checks}
 use Rattle.cx_typed.specs.Typed.{AreTyped}
 use Rattle.cx_typed.specs.Laws.{TypedProgramsAreWellMade}
@@ -37,6 +36,9 @@ then_keeps Q h k = then_leads [] [] [] Q h k
 
 gives_keeps : {A : Type 0} (P : A → Type 0) (a : A) → P a → Keeps P (gives a)
 gives_keeps P a h = gives_comes (Typed []) P a h
+
+no_slot : (slot : ℕ) (type : IntegerType) → slice_get [] slot ≡ Some type → ⊥
+no_slot slot type e = cc
 
 -- ---- without preconditions and postconditions
 
@@ -61,17 +63,20 @@ frame_set : (frame : Frame) → frame.result ≡ None → Keeps Always (set_fram
 unfolding set_frame
 frame_set frame none =
     record {
-      comes = λ s i. (tt {0}, (i.0, record {
-        no_result = none;
-        variables = λ slot type e. absurd (no_slot slot type e);
-        objects = i.1.objects;
-        are_scalars = i.1.are_scalars;
-        temporaries_are_scalars = i.1.temporaries_are_scalars;
-      }));
+      comes = λ s i. (
+        tt {0},
+        (
+          i.0,
+          record {
+            no_result = none;
+            variables = λ slot type e. absurd (no_slot slot type e);
+            objects = i.1.objects;
+            are_scalars = i.1.are_scalars;
+            temporaries_are_scalars = i.1.temporaries_are_scalars;
+          },
+        ),
+      );
     }
-  where
-    no_slot : (slot : ℕ) (type : IntegerType) → slice_get [] slot ≡ Some type → ⊥
-    no_slot slot type e = cc
 
 frame_set_back : (frame : Frame) → Comes Anywhere (With Always Anywhere) (set_frame frame)
 unfolding set_frame
@@ -158,19 +163,19 @@ returns_int (thrown x t) n h e = absurd h
 returns_int (over answer trace) n h e = absurd (subst IsEnd e h)
 
 started : (program : Program) (begins : List Evaluation) (input : List ℕ) (budget : ℕ) → program.globals ≡ [] → Typed [] (start program begins input budget)
-started program begins input budget none = (types, record {
-  no_result = refl;
-  variables = λ slot type e. absurd (no_slot slot type e);
-  objects = subst (λ (globals : List Constant). All (IsObjectOf types (length globals + 1)) (globals_from 1 globals)) (sym none) (All-nil (IsObjectOf types 1));
-  are_scalars = All-nil IsScalar;
-  temporaries_are_scalars = All-nil IsScalar;
-})
+started program begins input budget none = (
+  types,
+  record {
+    no_result = refl;
+    variables = λ slot type e. absurd (no_slot slot type e);
+    objects = subst (λ (globals : List Constant). All (IsObjectOf types (length globals + 1)) (globals_from 1 globals)) (sym none) (All-nil (IsObjectOf types 1));
+    are_scalars = All-nil IsScalar;
+    temporaries_are_scalars = All-nil IsScalar;
+  },
+)
   where
     types : Types
     types n = integers.Int
-
-    no_slot : (slot : ℕ) (type : IntegerType) → slice_get [] slot ≡ Some type → ⊥
-    no_slot slot type e = cc
 
 pub well_made : TypedProgramsAreWellMade
 unfolding mean mean_within calls_within
