@@ -1,0 +1,11 @@
+pub mod Operations
+pub mod Depths
+pub mod Reached
+pub mod Flows
+pub mod ExpressionFlows
+pub mod StatementFlows
+pub mod Lengths
+pub mod Functions
+pub mod Indices
+pub mod Stored
+pub mod Valid
