@@ -1,4 +1,13 @@
 pub mod Operations
+pub mod Parts
+pub mod Typing
+pub mod Placed
+pub mod Instructions
+pub mod Scopes
+pub mod Expressions
+pub mod Statements
+pub mod Assertions
+pub mod Main
 pub mod Depths
 pub mod Reached
 pub mod Flows
