@@ -22,7 +22,7 @@ use Rattle.cx_lower.proofs.Depths.{At, AreAt, at_front, at_back, all_there, AreL
 use Rattle.cx_lower.proofs.Reached.{HasPlacesAt, droppers, is_valid_function}
 use Rattle.cx_lower.proofs.Flows.{Flow, Exits}
 use Rattle.cx_lower.proofs.StatementFlows.{stmts_flow}
-use Rattle.cx_lower.proofs.Lengths.{length_ends, same_stmts}
+use Rattle.cx_lower.proofs.Placed.{same_stmts_length}
 
 -- ---- the code behind the statements
 
@@ -70,7 +70,7 @@ module _ (image : Image) (assertions : List Assertion) (index : List ℕ → ℕ
       let most = stmts_most 0 b in
       let code = stmts_code index exit 0 0 0 b in
       let ends = ends_code 0 most in
-      let flow : Flow image function exit most 0 0 code 0 = stmts_flow image function exit most assertions index listed (omega arith) b [] 0 0 0 refl typed light (omega arith) (omega arith) in
+      let flow : Flow image function exit most 0 0 code 0 = stmts_flow image function exit most assertions index listed (omega arith) b [] 0 0 0 refl typed light (omega arith) in
       let behind = 0 ∷ 1 ∷ (ends_depths most ++ 1 ∷ []) in
       let depths = flow.made ++ behind in
       let start = 0 + length code in
@@ -80,7 +80,7 @@ module _ (image : Image) (assertions : List Assertion) (index : List ℕ → ℕ
       let at_ends = at_front depths (start + 1 + 1) (ends_depths most) (1 ∷ []) at_behind.1.1 in
       let over : start + 1 + 1 + length (ends_depths most) ≡ start + 1 + 1 + 2 * most = omega (arith, length_depths most) in
       let at_return = subst (λ (n : ℕ). At depths n 1) over (at_back depths (start + 1 + 1) (ends_depths most) (1 ∷ []) at_behind.1.1).0 in
-      let place : exit ≡ start + 1 + 1 + 2 * most = omega (arith, same_stmts index exit 0 b 0 0 0 0) in
+      let place : exit ≡ start + 1 + 1 + 2 * most = omega (arith, same_stmts_length index exit 0 0 0 0 0 b) in
       let at_exit = subst (λ (n : ℕ). At depths n 1) (sym place) at_return in
       let exits : Exits depths exit most = λ live le.
           let there : start + 1 + 1 + 2 * (most - live) ≡ exit - 2 * live = omega (arith, place) in
