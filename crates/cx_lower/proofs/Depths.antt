@@ -1,5 +1,5 @@
 -- The operand depths of code: a list with a depth for each of its places, so that each instruction leads to places with the depths that it makes.
-use Rattle.std.proofs.Common.{◌≡◌, ℕ, zero, suc, ◌+◌, ◌-◌, ◌*◌, ◌<◌, ◌≤◌, List, [], ◌∷◌, ◌++◌, length, Option, Some, None, refl, sym, ap, subst, ◌∙◌, arith}
+use Rattle.std.proofs.Common.{◌≡◌, ℕ, zero, suc, ◌+◌, ◌<◌, ◌≤◌, List, [], ◌∷◌, ◌++◌, length, Option, Some, refl, sym, ap, subst, ◌∙◌, arith}
 use Rattle.std.specs.Prelude.{slice_get}
 use Rattle.std.specs.List.{AllByRecursion}
 use Rattle.std.proofs.lemmas.Option.{same_Some}
@@ -10,7 +10,7 @@ use Rattle.cx_code.specs.declared.operation.Operation.{Operation}
 use Rattle.cx_code.specs.declared.operation.Operation.TheVariants as does
 use Rattle.cx_code.specs.Operation.{operation_of}
 use Rattle.cx_code.specs.Reached.{operation_at, HasIndices, taken_count, depth_after, Follows}
-use Rattle.cx_code.specs.Rules.{IsInRange, PassesArguments, HasDropper}
+use Rattle.cx_code.specs.Rules.{PassesArguments}
 
 -- an operation of compiled code: it has no globals, texts and exceptions, and its assertion, its function and its slot are there
 abbrev pub IsOurs : Image → Function → Operation → Type 0

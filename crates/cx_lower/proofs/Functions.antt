@@ -1,5 +1,5 @@
 -- The two functions of the image of a unit are valid.
-use Rattle.std.proofs.Common.{◌≡◌, ℕ, zero, suc, ◌+◌, ◌-◌, ◌*◌, ◌<◌, ◌≤◌, List, [], ◌∷◌, ◌++◌, length, true, Option, Some, None, All, refl, sym, ap, subst, ◌∙◌, arith, inl, inr, pos, length-append}
+use Rattle.std.proofs.Common.{◌≡◌, ℕ, zero, suc, ◌+◌, ◌-◌, ◌*◌, ◌<◌, ◌≤◌, List, [], ◌∷◌, ◌++◌, length, true, Some, All, refl, sym, subst, arith, inl, inr, pos}
 use Rattle.std.proofs.lemmas.Bool.{cases_lt}
 use Rattle.std.specs.Prelude.{slice_get}
 use Rattle.std.proofs.lemmas.Option.{slice_get_within}
@@ -15,10 +15,10 @@ use Rattle.cx_core.specs.Tree as tree
 use Rattle.cx_core.specs.Tree.{Stmts}
 use Rattle.cx_typed.specs.Typed.{IsListed, AreTyped}
 use Rattle.cx_typed.specs.Weight.{stmts_weight}
-use Rattle.cx_lower.specs.Code.{push, get, end, jump, call, returns, ends_code, stmts_code, stmts_most, exit_of, exit_code, body_code}
+use Rattle.cx_lower.specs.Code.{returns, ends_code, stmts_code, stmts_most, exit_of, exit_code, body_code}
 use Rattle.cx_lower.specs.Tables.{main_function, body_function}
 use Rattle.cx_lower.proofs.Operations.{push_is, get_is, end_is, jump_is, call_is, returns_is}
-use Rattle.cx_lower.proofs.Depths.{At, AreAt, at_front, at_back, all_there, AreLocal, IsLocal, local_append}
+use Rattle.cx_lower.proofs.Depths.{At, AreAt, at_front, at_back, all_there, AreLocal, local_append}
 use Rattle.cx_lower.proofs.Reached.{HasPlacesAt, droppers, is_valid_function}
 use Rattle.cx_lower.proofs.Flows.{Flow, Exits}
 use Rattle.cx_lower.proofs.StatementFlows.{stmts_flow}

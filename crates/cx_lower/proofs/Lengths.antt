@@ -1,12 +1,12 @@
 -- How long code is: a statement has few instructions for what it weighs.
-use Rattle.std.proofs.Common.{◌≡◌, ℕ, zero, suc, ◌+◌, ◌-◌, ◌*◌, ◌≤◌, max, pos, List, [], ◌∷◌, ◌++◌, length, Option, Some, None, refl, arith, length-append}
+use Rattle.std.proofs.Common.{◌≡◌, ℕ, zero, suc, ◌+◌, ◌-◌, ◌*◌, ◌≤◌, pos, List, [], ◌∷◌, ◌++◌, length, Option, Some, None, arith, length-append}
 use Rattle.cx_code.specs.declared.code.Instruction.{Instruction}
 use Rattle.cx_core.specs.declared.number.IntegerType.{IntegerType}
 use Rattle.cx_core.specs.declared.number.IntegerType.TheVariants as types
 use Rattle.cx_core.specs.Words.{Semantic, Ignore, Observe, Enforce, QuickEnforce}
 use Rattle.cx_core.specs.Operators.{integer_of}
-use Rattle.cx_core.specs.Tree.{ObjectType, scalar, pointer, class, number, Expr, literal, variable, unary, binary, assign, putchar, Operand, operand, value, Check, Stmt, Stmts, expression, variable_declaration, block, if_else, while_loop, contract_assert, return_value, done, next}
-use Rattle.cx_typed.specs.Weight.{operand_weight, expr_weight, stmt_weight, stmts_weight, init_weight}
+use Rattle.cx_core.specs.Tree.{ObjectType, scalar, number, Expr, literal, variable, unary, binary, assign, putchar, Operand, operand, value, Check, Stmt, Stmts, expression, variable_declaration, block, if_else, while_loop, contract_assert, return_value, done, next}
+use Rattle.cx_typed.specs.Weight.{operand_weight, expr_weight, stmt_weight, stmts_weight}
 use Rattle.cx_lower.specs.Code.{unary_instruction, binary_instruction, swap, store, jump, jump_zero, out, discard, convert, returns, conversion_code, load_code, read_code, expr_code, operand_code, truth_code, discarded_code, violated_code, verdict_code, evaluation_code, times_code, check_code, ends_code, live_behind, stmt_code, stmts_code, stmt_most, stmts_most, exit_of, exit_code, body_code}
 use Rattle.cx_lower.proofs.Placed.{length_ends}
 use Rattle.cx_lower.proofs.ExpressionFlows.{some_weight}

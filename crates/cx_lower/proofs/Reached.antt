@@ -1,5 +1,5 @@
 -- Functions without regions, each of whose places has one depth, are valid.
-use Rattle.std.proofs.Common.{◌≡◌, ℕ, ◌+◌, ◌<◌, ◌≤◌, List, [], length, Option, Some, None, All, refl, sym, ap, subst, ◌∙◌, arith, inl}
+use Rattle.std.proofs.Common.{◌≡◌, ℕ, ◌+◌, ◌<◌, List, [], length, Option, Some, All, refl, sym, subst, ◌∙◌, arith, inl}
 use Rattle.std.specs.Prelude.{slice_get}
 use Rattle.std.proofs.lemmas.Option.{slice_get_within, same_Some}
 use Rattle.std.proofs.lemmas.List.Elements.{All-from_recursion, All-nil}
@@ -10,8 +10,8 @@ use Rattle.cx_code.specs.declared.image.Function.{Function}
 use Rattle.cx_code.specs.declared.operation.Operation.{Operation}
 use Rattle.cx_code.specs.declared.operation.Operation.TheVariants as does
 use Rattle.cx_code.specs.Operation.{operation_of}
-use Rattle.cx_code.specs.Reached.{operation_at, Follows, Origin, Plain, Cleanup, IsReached, start, target, onwards}
-use Rattle.cx_code.specs.Rules.{IsValidFunction, IsInRange, HasType, HasPlaces, HasDepths, HasOrder, IsNested, IsRegionOf, PassesArguments, HasDropper}
+use Rattle.cx_code.specs.Reached.{operation_at, Origin, Plain, Cleanup, IsReached, start, target, onwards}
+use Rattle.cx_code.specs.Rules.{IsValidFunction, IsInRange, HasType, HasPlaces, HasDepths, HasOrder, IsRegionOf, PassesArguments, HasDropper}
 use Rattle.cx_lower.proofs.Depths.{IsOurs, At, IsLocal, AreLocal, local_at, shallow_at, ours_at, as_many, of_each}
 
 -- it has no regions, and its places have these depths

@@ -1,8 +1,7 @@
 -- The operand depths of the code of typed statements, each of which begins and ends without operands.
-use Rattle.std.proofs.Common.{◌≡◌, ℕ, zero, suc, ◌+◌, ◌-◌, ◌*◌, ◌<◌, ◌≤◌, max, List, [], ◌∷◌, ◌++◌, length, Option, Some, None, refl, sym, ap, subst, ◌∙◌, arith, length-append}
+use Rattle.std.proofs.Common.{◌≡◌, ℕ, zero, suc, ◌+◌, ◌<◌, ◌≤◌, List, [], ◌∷◌, ◌++◌, length, Option, Some, None, refl, sym, subst, ◌∙◌, arith, length-append}
 use Rattle.std.specs.Prelude.{slice_get}
 use Rattle.std.proofs.lemmas.Option.{slice_get_within}
-use Rattle.cx_types.specs.declared.value_type.Scalar.{Scalar}
 use Rattle.cx_code.specs.declared.code.Instruction.{Instruction}
 use Rattle.cx_code.specs.declared.image.Image.{Image}
 use Rattle.cx_code.specs.declared.image.Function.{Function}
@@ -14,9 +13,9 @@ use Rattle.cx_core.specs.Words.{Definer, Semantic, Ignore, Observe, Enforce, Qui
 use Rattle.cx_core.specs.Operators.{integer_of}
 use Rattle.cx_core.specs.Tree as tree
 use Rattle.cx_core.specs.Tree.{ObjectType, scalar, Expr, variable, assign, putchar, Operand, operand, value, Check, Stmt, Stmts, empty, expression, variable_declaration, block, if_else, while_loop, contract_assert, return_value, done, next}
-use Rattle.cx_typed.specs.Typed.{Slots, Gives, IsCondition, IsListed, IsTypedDeclaration, with_slot, seen_behind, IsTyped, AreTyped}
+use Rattle.cx_typed.specs.Typed.{Slots, Gives, IsCondition, IsListed, IsTypedDeclaration, seen_behind, IsTyped, AreTyped}
 use Rattle.cx_typed.specs.Weight.{operand_weight, expr_weight, stmt_weight, stmts_weight}
-use Rattle.cx_lower.specs.Code.{discard, swap, get, make, end, store, jump, out, begin, verdict, violate, contract_end, expr_code, operand_code, truth_code, violated_code, verdict_code, evaluation_code, times_code, check_code, ends_code, live_behind, stmt_code, stmts_code, stmt_most, stmts_most}
+use Rattle.cx_lower.specs.Code.{discard, swap, get, make, end, store, jump, out, begin, verdict, violate, contract_end, expr_code, operand_code, violated_code, verdict_code, evaluation_code, times_code, ends_code, live_behind, stmt_code, stmts_code, stmt_most, stmts_most}
 use Rattle.cx_lower.proofs.Operations.{discard_is, swap_is, make_is, end_is, store_is, out_is, begin_is, verdict_is, violate_is, contract_end_is}
 use Rattle.cx_lower.proofs.Typing.{live_more, live_within, seen_length}
 use Rattle.cx_lower.proofs.Flows.{Flow, nothing, joined, step, stop, pass, leave, skip, branch, loop}

@@ -1,5 +1,5 @@
 -- A file can hold the image of a unit.
-use Rattle.std.proofs.Common.{◌≡◌, ℕ, suc, ◌+◌, ◌*◌, ◌<◌, ◌≤◌, List, [], ◌∷◌, ◌++◌, length, All, ap, ◌∙◌, arith, length-append, lit≤, lit<, true, false, cond, codes, refl}
+use Rattle.std.proofs.Common.{◌≡◌, ℕ, suc, ◌+◌, ◌*◌, ◌<◌, ◌≤◌, List, [], ◌∷◌, ◌++◌, length, ap, ◌∙◌, arith, length-append, lit≤, lit<, true, false, cond, codes, refl}
 use Rattle.std.specs.Prelude.{sum_by}
 use Rattle.std.specs.List.{flat_map, AllByRecursion}
 use Rattle.std.specs.Str.{bytes_eq}
@@ -19,7 +19,7 @@ use Rattle.cx_core.specs.declared.unit.Assertion.{Assertion}
 use Rattle.cx_core.specs.Tree.{Stmts}
 use Rattle.cx_typed.specs.Weight.{stmts_weight}
 use Rattle.cx_typed.specs.Built.{most_weight, most_comments, longest_name}
-use Rattle.cx_lower.specs.Code.{body_code, stmts_most}
+use Rattle.cx_lower.specs.Code.{body_code}
 use Rattle.cx_lower.specs.Tables.{comments_of, other_files, entry_of, entries_of, index_of, main_function, body_function, image_of}
 use Rattle.cx_lower.proofs.Lengths.{length_body, few_stmts}
 
