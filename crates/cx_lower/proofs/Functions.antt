@@ -52,10 +52,13 @@ unfolding ends_code
 ends_local image function depths base zero start room at behind = let e : start + 2 * 0 ≡ start = omega arith in (subst (λ (n : ℕ). At depths n 1) e behind, tt)
 ends_local image function depths base (suc n) start room at behind =
     let e : start + 2 * suc n ≡ start + 1 + 1 + 2 * n = omega arith in
-    let rest = ends_local image function depths base n (start + 1 + 1) (omega arith) at.1.1 (subst (λ (n : ℕ). At depths n 1) e behind) in
-    (at.0, (
-    (does.Get (base + n), get_is (base + n), record { enough = omega arith; shallow = omega arith; ours = omega arith; onto = λ next follows. subst (λ (n : ℕ). At depths n 2) (sym follows) at.1.0 }),
-    ((does.End, end_is, record { enough = omega arith; shallow = omega arith; ours = tt; onto = λ next follows. subst (λ (n : ℕ). At depths n 1) (sym follows) rest.0 }), rest.1)))
+    let rest = ends_local image function depths base n (start + 1 + 1) (omega arith) at.1.1 (subst (λ (n : ℕ). At depths n 1) e behind) in (
+      at.0,
+      (
+        (does.Get (base + n), get_is (base + n), record { enough = omega arith; shallow = omega arith; ours = omega arith; onto = λ next follows. subst (λ (n : ℕ). At depths n 2) (sym follows) at.1.0 }),
+        ((does.End, end_is, record { enough = omega arith; shallow = omega arith; ours = tt; onto = λ next follows. subst (λ (n : ℕ). At depths n 1) (sym follows) rest.0 }), rest.1),
+      ),
+    )
 
 -- ---- the function with the body
 
@@ -83,16 +86,19 @@ module _ (image : Image) (assertions : List Assertion) (index : List ℕ → ℕ
       let place : exit ≡ start + 1 + 1 + 2 * most = omega (arith, same_stmts_length index exit 0 0 0 0 0 b) in
       let at_exit = subst (λ (n : ℕ). At depths n 1) (sym place) at_return in
       let exits : Exits depths exit most = λ live le.
-          let there : start + 1 + 1 + 2 * (most - live) ≡ exit - 2 * live = omega (arith, place) in
-          subst (λ (n : ℕ). At depths n 1) there (ends_at depths most live (start + 1 + 1) le at_ends at_return) in
+      let there : start + 1 + 1 + 2 * (most - live) ≡ exit - 2 * live = omega (arith, place) in
+      subst (λ (n : ℕ). At depths n 1) there (ends_at depths most live (start + 1 + 1) le at_ends at_return) in
       let first = flow.local depths (at_front depths 0 flow.made behind at) at_behind.0 exits in
       let ending = ends_local image function depths 0 most (start + 1 + 1) (omega arith) at_ends at_return in
       let final : AreLocal image function depths (start + 1 + 1 + length ends) (returns ∷ []) (1 ∷ []) =
-          ((does.Return, returns_is, record { enough = omega arith; shallow = omega arith; ours = tt; onto = λ next follows. absurd follows }), tt) in
+      ((does.Return, returns_is, record { enough = omega arith; shallow = omega arith; ours = tt; onto = λ next follows. absurd follows }), tt) in
       let tail : AreLocal image function depths start (exit_code exit most) behind = (
-          (does.Push (pos 0), push_is 0 (omega arith), record { enough = omega arith; shallow = omega arith; ours = tt; onto = λ next follows. subst (λ (n : ℕ). At depths n 1) (sym follows) at_behind.1.0 }),
-          ((does.Jump exit, jump_is exit, record { enough = omega arith; shallow = omega arith; ours = tt; onto = λ next follows. subst (λ (n : ℕ). At depths n 1) (sym follows) at_exit }),
-          local_append image function depths (start + 1 + 1) ends (returns ∷ []) (ends_depths most) (1 ∷ []) ending.1 final)) in
+        (does.Push (pos 0), push_is 0 (omega arith), record { enough = omega arith; shallow = omega arith; ours = tt; onto = λ next follows. subst (λ (n : ℕ). At depths n 1) (sym follows) at_behind.1.0 }),
+        (
+          (does.Jump exit, jump_is exit, record { enough = omega arith; shallow = omega arith; ours = tt; onto = λ next follows. subst (λ (n : ℕ). At depths n 1) (sym follows) at_exit }),
+          local_append image function depths (start + 1 + 1) ends (returns ∷ []) (ends_depths most) (1 ∷ []) ending.1 final,
+        ),
+      ) in
       record {
         no_regions = refl;
         depths = depths;
@@ -120,7 +126,8 @@ module _ (image : Image) (body : Function) (is_body : slice_get image.functions 
         starts = refl;
         local = (
           (does.Call 1 0, call_is 1, record { enough = omega arith; shallow = omega arith; ours = (there, rw is_body no_parameters); onto = λ next follows. subst (λ (n : ℕ). At depths next n) (sym given) (subst (λ (n : ℕ). At depths n 1) (sym follows) refl) }),
-          ((does.Return, returns_is, record { enough = omega arith; shallow = omega arith; ours = tt; onto = λ next follows. absurd follows }), tt));
+          ((does.Return, returns_is, record { enough = omega arith; shallow = omega arith; ours = tt; onto = λ next follows. absurd follows }), tt),
+        );
       }
 
   pub main_valid : IsValidFunction image main_function

@@ -28,7 +28,7 @@ image_is_valid unit b typed numbered light few comments files name =
     let index = index_of unit.assertions in
     let functions = main_function ∷ body_function index b ∷ [] in
     let listed : (a : tree.Assertion) → IsListed unit.assertions a → index a.name < length image.assertions =
-        λ a is. omega (arith, listed_below unit.assertions a is, length_entries unit.name (length unit.assertions + 1) 1 unit.assertions) in
+    λ a is. omega (arith, listed_below unit.assertions a is, length_entries unit.name (length unit.assertions + 1) 1 unit.assertions) in
     record {
       storable = is_storable unit b (record { light = light; few_assertions = few; comments = comments; files = recursion_from_All (λ (a : Assertion). length a.file ≤ longest_name) unit.assertions files; name = name });
       each_function = All-from_recursion (IsValidFunction image) functions (main_valid image (body_function index b) refl refl refl, (body_valid image unit.assertions index listed b typed light, tt));
