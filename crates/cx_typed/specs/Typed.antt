@@ -1,6 +1,5 @@
 -- Which statements of the typed program are built so far, and of which types their expressions are: numbers of `bool`, `char` and `int` are computed after [expr.unary.op], [expr.mul] to [expr.or], [conv.integral] and [conv.bool] of the C++ draft; that a variable's slot is the number of variables that are visible before it is this project's own.
-use Rattle.std.specs.Prelude.{◌≡◌, ◌⊎◌, ℕ, ◌≤◌, pos, Bool, true, false, List, [], ◌∷◌, ◌++◌, Option, Some, None, length, slice_get}
-use Rattle.cx_types.specs.declared.value_type.Scalar.{Scalar}
+use Rattle.std.specs.Prelude.{◌≡◌, ◌⊎◌, ℕ, ◌≤◌, pos, true, false, List, [], ◌∷◌, ◌++◌, Option, Some, None, length, slice_get}
 use Rattle.cx_core.specs.declared.number.IntegerType.{IntegerType}
 use Rattle.cx_core.specs.declared.number.IntegerType.TheVariants as types
 use Rattle.cx_core.specs.declared.number.BinaryOperator.{BinaryOperator}

@@ -1,6 +1,6 @@
 -- How much a statement weighs: the expressions and statements in it, each of which has a token of its own in the source. This is this project's own.
 use Rattle.std.specs.Prelude.{ℕ, ◌+◌, suc}
-use Rattle.cx_core.specs.Tree.{Expr, unary, binary, assign, putchar, Operand, operand, Init, value, Stmt, Stmts, empty, expression, variable_declaration, block, if_else, while_loop, contract_assert, return_value, done, next}
+use Rattle.cx_core.specs.Tree.{Expr, unary, binary, assign, putchar, Operand, operand, Init, value, Stmt, Stmts, expression, variable_declaration, block, if_else, while_loop, contract_assert, return_value, done, next}
 
 unfoldable mutual
   pub expr_weight : Expr → ℕ
