@@ -1,2 +1,10 @@
-//! Stub.
+//! The image of a unit of `main` alone: it stands for the unit's typed program, whose assertions all have one semantic.
 #![tactic(auto)]
+
+mod checks;
+mod code;
+mod emitter;
+mod expressions;
+mod instructions;
+mod operators;
+mod statements;
