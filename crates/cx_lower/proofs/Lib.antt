@@ -19,4 +19,5 @@ pub mod Indices
 pub mod Stored
 pub mod Valid
 pub mod Joined
+pub mod Evaluated
 pub mod Opened
