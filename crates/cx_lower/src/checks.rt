@@ -6,8 +6,8 @@ ghost use Rattle.cx_lower.specs.Emitted.{code_of_evaluation, code_of_evaluations
 
 use crate::code::Code;
 use crate::emitter::Emitter;
-use crate::expressions::put_truth;
-use crate::instructions::{begin, contract_end, jump_nonzero, verdict, violate};
+use crate::expression::put_truth;
+use crate::instruction::{begin, contract_end, jump_nonzero, verdict, violate};
 use cx_code::Semantic;
 use cx_core::Operand;
 use cx_outside::NoMemory;
@@ -24,10 +24,10 @@ impl<'u> Emitter<'u> {
         requires room { length code.old + length (code_of_check self.now (length code.old) index predicate.now) ≤ 2 ^ 24 }
         ensures { OnOk result (code.new ≡ code.old ++ code_of_check self.now (length code.old) index predicate.now) }
     {
-        match self.unit.assertions.items().get(index as usize) {
-            Some(_) => self.put_evaluations(code, index, predicate),
-            None => Ok(()),
+        if index as usize >= self.unit.assertions.items().len() {
+            return Ok(());
         }
+        self.put_evaluations(code, index, predicate)
     }
 
     /// An assertion is evaluated once, and not at all under `ignore`.

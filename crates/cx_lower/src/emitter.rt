@@ -5,8 +5,8 @@ ghost use Rattle.cx_lower.specs.Code.{swap, store, discard, out, jump, jump_zero
 ghost use Rattle.cx_lower.specs.Emitted.{code_of_operand, code_of_truth, code_of_discarded};
 
 use crate::code::Code;
-use crate::expressions::{put_expression, put_operand, put_truth};
-use crate::instructions::{discard, end, get, jump, jump_zero, make, out, store, swap};
+use crate::expression::{put_expression, put_operand, put_truth};
+use crate::instruction::{discard, end, get, jump, jump_zero, make, out, store, swap};
 use cx_code::Semantic;
 use cx_core::{CoreUnit, Expression, Operand};
 use cx_outside::NoMemory;

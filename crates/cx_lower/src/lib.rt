@@ -4,7 +4,7 @@
 mod checks;
 mod code;
 mod emitter;
-mod expressions;
-mod instructions;
+mod expression;
+mod instruction;
 mod operators;
-mod statements;
+mod statement;

@@ -7,7 +7,7 @@ ghost use Rattle.cx_lower.specs.Emitted.{code_of_statement, code_of_statements};
 
 use crate::code::Code;
 use crate::emitter::{Emitter, put_ends};
-use crate::instructions::{jump, jump_zero};
+use crate::instruction::{jump, jump_zero};
 use cx_core::{Initializer, Statement};
 use cx_outside::NoMemory;
 

@@ -1,7 +1,7 @@
 use Rattle.std.proofs.Common.{append_assoc}
 use Rattle.cx_lower.specs.Code.{expr_code, operand_code}
 use Rattle.cx_lower.proofs.Opened.{opened-unary, opened-binary, opened-operand}
-use Rattle.cx_lower.proofs.expressions.+expressions.Goals as goal
+use Rattle.cx_lower.proofs.expression.+expressions.Goals as goal
 
 pub put_expression-returns-in_ok-put_operand-in-Unary : goal.put_expression-returns-in_ok-put_operand-in-Unary
 unfolding expr_code

@@ -5,7 +5,7 @@ ghost use Rattle.cx_core.specs.Numbered.{Numbers, constant, expr_of, operand_of,
 ghost use Rattle.cx_lower.specs.Code.{conversion_code, load_code, read_code, expr_code, operand_code, truth_code};
 
 use crate::code::Code;
-use crate::instructions::{get, load, push};
+use crate::instruction::{get, load, push};
 use crate::operators::{binary_instruction, convert, integer_of, unary_instruction};
 use cx_core::{Constant, Expression, IntegerType, Operand};
 use cx_outside::NoMemory;
