@@ -1,7 +1,7 @@
 -- Code that is put behind code, and jumps in it whose targets are set later.
 use Rattle.std.proofs.Common.{◌≡◌, ℕ, ◌+◌, List, [], ◌∷◌, ◌++◌, length, refl, sym, ap, ◌∙◌, arith, append_assoc, length-append}
 use Rattle.std.proofs.Math.ListN.{set}
-use Rattle.std.proofs.lemmas.List.{set_at}
+use Rattle.std.proofs.lemmas.List.{set_at, length-set}
 use Rattle.cx_code.specs.declared.code.Instruction.{Instruction}
 use Rattle.cx_lower.specs.Code.{jump, jump_zero}
 
@@ -26,6 +26,49 @@ loop_code start truth body_at =
     let body_start = start + 1 + length truth + 1 in
     let body_code = body_at body_start in
     jump (start + 1) ∷ (truth ++ jump_zero (body_start + length body_code + 1) ∷ (body_code ++ jump (start + 1) ∷ []))
+
+-- where the parts of an `if` begin
+abbrev pub then_place : (start : ℕ) (truth : Code) → ℕ
+then_place start truth = start + length truth + 1
+
+abbrev pub else_place : (start : ℕ) (truth : Code) (then_at : ℕ → Code) → ℕ
+else_place start truth then_at = then_place start truth + length (then_at (then_place start truth)) + 1
+
+abbrev pub body_place : (start : ℕ) (truth : Code) → ℕ
+body_place start truth = start + 1 + length truth + 1
+
+pub length_branch : (start : ℕ) (truth : Code) (then_at else_at : ℕ → Code)
+    → start + length (branch_code start truth then_at else_at) ≡ else_place start truth then_at + length (else_at (else_place start truth then_at))
+length_branch start truth then_at else_at =
+    let then_code = then_at (then_place start truth) in
+    let place = else_place start truth then_at in
+    let else_code = jump (place + length (else_at place)) ∷ else_at place in
+    omega (arith, length-append truth (jump_zero place ∷ (then_code ++ else_code)), length-append then_code else_code)
+
+pub length_loop : (start : ℕ) (truth : Code) (body_at : ℕ → Code)
+    → start + length (loop_code start truth body_at) ≡ body_place start truth + length (body_at (body_place start truth)) + 1
+length_loop start truth body_at =
+    let body_code = body_at (body_place start truth) in
+    let again = body_code ++ jump (start + 1) ∷ [] in
+    omega (arith, length-append truth (jump_zero (body_place start truth + length body_code + 1) ∷ again), length-append body_code (jump (start + 1) ∷ []))
+
+-- ---- places
+
+pub length_opened : (old opened truth : Code) → opened ≡ old ++ (truth ++ jump_zero 0 ∷ []) → length opened ≡ then_place (length old) truth
+length_opened old opened truth is =
+    omega (arith, ap length is, length-append old (truth ++ jump_zero 0 ∷ []), length-append truth (jump_zero 0 ∷ []))
+
+pub length_put : (opened first : Code) (at : ℕ → Code) (place : ℕ) → length opened ≡ place → first ≡ opened ++ at (length opened) → length first ≡ place + length (at place)
+length_put opened first at place opened_length is =
+    omega (arith, ap length (is ∙ ap (λ (n : ℕ). opened ++ at n) opened_length), length-append opened (at place), opened_length)
+
+pub length_turned : (first turned : Code) (i j : Instruction) (over : ℕ) → turned ≡ set (first ++ i ∷ []) over j → length turned ≡ length first + 1
+length_turned first turned i j over is = omega (arith, ap length is ∙ length-set (first ++ i ∷ []) over j, length-append first (i ∷ []))
+
+pub length_begun : (old begun : Code) (i : Instruction) → begun ≡ old ++ i ∷ [] → length begun ≡ length old + 1
+length_begun old begun i is = omega (arith, ap length is, length-append old (i ∷ []))
+
+-- ---- jumps that are set
 
 -- an instruction is put in the place of another one, with code on both sides
 replaced : (front : Code) (i j : Instruction) (back : Code) (at : ℕ) → at ≡ length front → set (front ++ i ∷ back) at j ≡ front ++ j ∷ back

@@ -20,4 +20,6 @@ pub mod Stored
 pub mod Valid
 pub mod Joined
 pub mod Evaluated
+pub mod Blocks
+pub mod Branches
 pub mod Opened
