@@ -1,11 +1,11 @@
 -- The code of a block, one statement at a time.
-use Rattle.std.proofs.Common.{◌≡◌, ℕ, suc, ◌+◌, ◌*◌, ◌^◌, ◌<◌, ◌≤◌, List, [], ◌∷◌, ◌++◌, length, get_or, drop, map, refl, sym, ap, subst, ◌∙◌, arith, append_assoc, length-append}
+use Rattle.std.proofs.Common.{◌≡◌, ℕ, ◌+◌, ◌*◌, ◌^◌, ◌<◌, ◌≤◌, max, List, ◌∷◌, ◌++◌, length, get_or, drop, refl, sym, ap, ◌∙◌, arith, append_assoc, length-append}
 use Rattle.std.proofs.lemmas.List.{drop_more, drop_all}
 use Rattle.cx_core.specs.declared.statement.Statement.{Statement}
 use Rattle.cx_core.specs.Numbered.{Numbers, stmt_of, stmts_of}
 use Rattle.cx_core.specs.Tree.{Stmt, Stmts, variable_declaration, done, next}
 use Rattle.cx_lower.specs.declared.emitter.Emitter.{Emitter}
-use Rattle.cx_lower.specs.Code.{live_behind, stmt_code, stmts_code, ends_code}
+use Rattle.cx_lower.specs.Code.{live_behind, stmt_code, stmts_code, ends_code, stmt_most, stmts_most}
 use Rattle.cx_lower.specs.Emitted.{numbers_of, index_in, code_of_statement, code_of_statements}
 use Rattle.cx_lower.proofs.Joined.{Code}
 use Rattle.cx_lower.proofs.Lengths.{length_ends}
@@ -82,3 +82,18 @@ module _ (e : Emitter) (old code : Code) (base count i : ℕ) (b : List Statemen
       ap (λ (w : Code). code ++ w) (sym (done_code (index_in e) e.exit base count (length code)))
       ∙ ap (λ (x : List Statement). code ++ code_of_statements e base count (length code) x) (sym (drop_all i b past))
       ∙ so_far
+
+-- ---- the most variables
+
+pub visible_counted : (b : Stmts) (live : ℕ) → live ≤ stmts_most live b
+unfolding stmts_most
+visible_counted done live = omega arith
+visible_counted (next s rest) live = omega (arith, no_fewer live s, visible_counted rest (live_behind live s))
+
+pub next_most : (n : Numbers) (live i : ℕ) (b : List Statement) (s : Statement) → i < length b → s ≡ get_or b i s
+    → stmts_most live (stmts_of n (drop i b)) ≡ max (stmt_most live (stmt_of n s)) (stmts_most (live_behind live (stmt_of n s)) (stmts_of n (drop (i + 1) b)))
+unfolding stmts_most
+next_most n live i b s within is = ap (stmts_most live) (dropped n b i s within is)
+
+pub most_so_far : (most first rest all more total : ℕ) → all ≡ max first rest → max most all ≡ total → more ≡ max most first → max more rest ≡ total
+most_so_far most first rest all more total all_is so_far more_is = omega (arith, all_is, so_far, more_is)

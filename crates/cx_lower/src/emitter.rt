@@ -12,6 +12,7 @@ use cx_core::{CoreUnit, Expression, Operand};
 use cx_outside::NoMemory;
 
 /// A unit whose statements are emitted.
+#[derive(Drop)]
 pub struct Emitter<'u> {
     pub unit: &'u CoreUnit,
     pub semantic: Semantic,

@@ -75,7 +75,7 @@ impl<'u> Emitter<'u> {
 
 /// How many variables are visible behind a statement.
 pub fn live_behind(live: u32, s: &Statement) -> u32
-    requires { live < 2 ^ 24 }
+    requires { live ≤ 2 ^ 24 }
     ensures { (n : Numbers) → result ≡ live_behind live (stmt_of n s.now) }
 {
     match s {
