@@ -8,7 +8,10 @@ mod emitter;
 mod expression;
 mod image;
 mod instruction;
+mod lowering;
 mod most;
 mod operators;
 mod statement;
 mod tables;
+
+pub use lowering::lower;
