@@ -17,3 +17,8 @@ pub mod Functions
 pub mod Indices
 pub mod Stored
 pub mod Valid
+pub mod Joined
+pub mod Evaluated
+pub mod Blocks
+pub mod Branches
+pub mod Opened

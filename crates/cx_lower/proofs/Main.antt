@@ -8,7 +8,6 @@ use Rattle.cx_emit.specs.Units.{StandsMain}
 use Rattle.cx_typed.specs.Built.{most_weight}
 use Rattle.cx_typed.specs.Typed.{AreTyped}
 use Rattle.cx_typed.specs.Unit.{AreNumbered}
-use Rattle.cx_typed.specs.Weight.{stmts_weight}
 use Rattle.cx_lower.specs.Code.{returns, ends_code, stmts_code, stmts_most, exit_code, exit_of, body_code}
 use Rattle.cx_lower.specs.Tables.{index_of, main_function, body_function, image_of}
 use Rattle.cx_lower.proofs.Operations.{push_is, jump_is, call_is, returns_is}
@@ -22,9 +21,9 @@ unfolding image_of
 has_body unit b = from_places (image_of unit b) 1 0 (body_code (index_of unit.assertions) b) (λ j. let e : 0 + j ≡ j = omega arith in rw e refl)
 
 -- the table is short, since the names of more than 10^64 assertions repeat
-pub body_stands : (unit : CoreUnit) (b : Stmts) → AreTyped unit.assertions [] b → AreNumbered 1 unit.assertions → stmts_weight b ≤ most_weight → length unit.assertions ≤ most_weight → StandsMain (image_of unit b) b
+pub body_stands : (unit : CoreUnit) (b : Stmts) → AreTyped unit.assertions [] b → AreNumbered 1 unit.assertions → length unit.assertions ≤ most_weight → StandsMain (image_of unit b) b
 unfolding image_of body_code
-body_stands unit b typed numbered light few =
+body_stands unit b typed numbered few =
     let image = image_of unit b in
     let index = index_of unit.assertions in
     let most = stmts_most 0 b in

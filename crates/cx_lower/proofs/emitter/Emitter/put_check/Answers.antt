@@ -1,0 +1,30 @@
+use Rattle.std.proofs.Common.{◌≡◌, ◌+◌, ◌^◌, ◌<◌, ◌≤◌, length, ap, sym, arith}
+use Rattle.std.proofs.lemmas.List.{append-nil}
+use Rattle.cx_core.specs.Numbered.{operand_of}
+use Rattle.cx_lower.specs.Emitted.{numbers_of, code_of_check, code_of_evaluations}
+use Rattle.cx_lower.proofs.Evaluated.{listed_check, unlisted_check}
+use Rattle.cx_lower.proofs.emitter.Emitter.put_check.Goals as goal
+
+pub returns-then-index-items : goal.returns-then-index-items
+returns-then-index-items c =
+    let emitter = c.args.self.now in
+    let past : length emitter.unit.now.assertions ≤ c.args.index = omega (arith, ap length c.items.ensures) in
+    rw (unlisted_check emitter.semantic emitter.unit.now (length c.args.code.now) c.args.index (operand_of (numbers_of emitter) c.args.predicate.now) past)
+    (sym (append-nil c.args.code.now))
+
+pub put_evaluations-requires : goal.put_evaluations-requires
+put_evaluations-requires c =
+    let emitter = c.args.self.now in
+    let within : c.args.index < length emitter.unit.now.assertions = omega (arith, ap length c.items.ensures) in
+    let few : 1 + length emitter.unit.now.assertions ≤ 2 ^ 64 = omega (arith, ap length c.items.ensures) in
+    let same : code_of_check emitter (length c.args.code.now) c.args.index c.args.predicate.now ≡ code_of_evaluations emitter (length c.args.code.now) c.args.index c.args.predicate.now =
+        listed_check emitter.semantic emitter.unit.now (length c.args.code.now) c.args.index (operand_of (numbers_of emitter) c.args.predicate.now) c.requires.numbered few within in
+    omega (arith, c.requires.room, ap length same)
+
+pub returns : goal.returns
+returns c =
+    let emitter = c.args.self.now in
+    let within : c.args.index < length emitter.unit.now.assertions = omega (arith, ap length c.items.ensures) in
+    let few : 1 + length emitter.unit.now.assertions ≤ 2 ^ 64 = omega (arith, ap length c.items.ensures) in
+    rw (listed_check emitter.semantic emitter.unit.now (length c.args.code.now) c.args.index (operand_of (numbers_of emitter) c.args.predicate.now) c.requires.numbered few within)
+    c.put_evaluations.ensures
