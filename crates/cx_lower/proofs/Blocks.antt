@@ -26,7 +26,7 @@ module _ (index : List ℕ → ℕ) (exit : ℕ) where
 
   next_code : (code : Code) (base count : ℕ) (s : Stmt) (rest : Stmts)
       → let first = stmt_code index exit (base + count) (length code) s in
-        code ++ stmts_code index exit base count (length code) (next s rest) ≡ (code ++ first) ++ stmts_code index exit base (live_behind count s) (length (code ++ first)) rest
+      code ++ stmts_code index exit base count (length code) (next s rest) ≡ (code ++ first) ++ stmts_code index exit base (live_behind count s) (length (code ++ first)) rest
   unfolding stmts_code
   next_code code base count s rest =
       let first = stmt_code index exit (base + count) (length code) s in

@@ -138,10 +138,7 @@ fn put_exit(code: &mut Code, exit: u32, most: u32) -> Result<(), NoMemory>
     code.push(returns())
 }
 
-fn items_of(
-    alloc: Global,
-    instructions: &[Instruction],
-) -> Result<Items<Instruction>, NoMemory>
+fn items_of(alloc: Global, instructions: &[Instruction]) -> Result<Items<Instruction>, NoMemory>
     ensures { IfOk result (λ items. items ≡ instructions.now) }
 {
     let mut items = Items::new(alloc);

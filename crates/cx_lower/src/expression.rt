@@ -1,8 +1,8 @@
 //! The code of expressions and operands.
-ghost use Rattle.std.specs.Prelude.{◌≡◌, [], ◌∷◌, ◌++◌, OnOk};
+ghost use Rattle.std.specs.Prelude.{◌≡◌, Some, [], ◌∷◌, ◌++◌, OnOk};
 ghost use Rattle.cx_core.specs.Tree.{literal};
-ghost use Rattle.cx_core.specs.Numbered.{Numbers, constant, expr_of, operand_of, object_type_or_none};
-ghost use Rattle.cx_lower.specs.Code.{conversion_code, load_code, read_code, expr_code, operand_code, truth_code};
+ghost use Rattle.cx_core.specs.Numbered.{Numbers, base_type, constant, expr_of, operand_of, object_type_or_none};
+ghost use Rattle.cx_lower.specs.Code.{push, conversion_code, load_code, read_code, expr_code, operand_code, truth_code};
 
 use crate::code::Code;
 use crate::instruction::{get, load, push};
@@ -52,6 +52,7 @@ pub fn put_truth(code: &mut Code, a: &Operand) -> Result<(), NoMemory>
     code.push(convert(IntegerType::Bool))
 }
 
+/// A number that is not negative. `nullptr` has no code.
 #[tactic(auto, unfolding(crate::specs::Code::expr_code, crate::specs::Code::operand_code))]
 fn put_literal(code: &mut Code, c: Constant) -> Result<(), NoMemory>
     ensures { OnOk result (code.new ≡ code.old ++ expr_code (literal (constant c))) }
@@ -62,8 +63,9 @@ fn put_literal(code: &mut Code, c: Constant) -> Result<(), NoMemory>
     }
 }
 
+/// Each literal of a unit that is built fits an instruction. One that doesn't is answered like want of memory.
 fn put_number(code: &mut Code, n: u128) -> Result<(), NoMemory>
-    ensures { OnOk result (code.new ≡ code.old ++ Rattle.cx_lower.specs.Code.push n ∷ []) }
+    ensures { OnOk result (code.new ≡ code.old ++ push n ∷ []) }
 {
     match u32::try_from(n) {
         Ok(n) => code.push(push(n)),
@@ -82,7 +84,7 @@ fn put_read(code: &mut Code, read: Option<ValueType>) -> Result<(), NoMemory>
 }
 
 fn put_base_read(code: &mut Code, base: Base) -> Result<(), NoMemory>
-    ensures { (numbers : Numbers) → OnOk result (code.new ≡ code.old ++ read_code (Rattle.std.specs.Prelude.Some (Rattle.cx_core.specs.Numbered.base_type numbers base))) }
+    ensures { (numbers : Numbers) → OnOk result (code.new ≡ code.old ++ read_code (Some (base_type numbers base))) }
 {
     match base {
         Base::Scalar(scalar) => put_load(code, integer_of(scalar)),

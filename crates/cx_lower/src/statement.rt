@@ -15,12 +15,7 @@ impl<'u> Emitter<'u> {
     /// A statement, where so many variables are visible. Others than those that are built have no code.
     #[cycle(statements)]
     #[tactic(auto, unfolding(crate::specs::Code::stmt_code, crate::specs::Code::stmts_code))]
-    pub fn put_statement(
-        &self,
-        code: &mut Code,
-        live: u32,
-        s: &Statement,
-    ) -> Result<(), NoMemory>
+    pub fn put_statement(&self, code: &mut Code, live: u32, s: &Statement) -> Result<(), NoMemory>
         requires numbered { AreNumbered 1 self.now.unit.now.assertions }
         requires room { length code.old + length (code_of_statement self.now live (length code.old) s.now) + 2 * live ≤ 2 ^ 24 }
         ensures { OnOk result (code.new ≡ code.old ++ code_of_statement self.now live (length code.old) s.now) }

@@ -1,5 +1,4 @@
 use Rattle.std.proofs.Common.{rules, arith, ap, length, length-append, append_assoc}
-use Rattle.std.proofs.lemmas.Result.{IfOk-equal}
 use Rattle.cx_lower.specs.Emitted.{numbers_of, code_of_truth}
 use Rattle.cx_lower.proofs.emitter.Emitter.open_branch.Goals as goal
 

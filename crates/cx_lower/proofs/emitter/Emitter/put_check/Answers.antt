@@ -18,7 +18,7 @@ put_evaluations-requires c =
     let within : c.args.index < length emitter.unit.now.assertions = omega (arith, ap length c.items.ensures) in
     let few : 1 + length emitter.unit.now.assertions ≤ 2 ^ 64 = omega (arith, ap length c.items.ensures) in
     let same : code_of_check emitter (length c.args.code.now) c.args.index c.args.predicate.now ≡ code_of_evaluations emitter (length c.args.code.now) c.args.index c.args.predicate.now =
-        listed_check emitter.semantic emitter.unit.now (length c.args.code.now) c.args.index (operand_of (numbers_of emitter) c.args.predicate.now) c.requires.numbered few within in
+    listed_check emitter.semantic emitter.unit.now (length c.args.code.now) c.args.index (operand_of (numbers_of emitter) c.args.predicate.now) c.requires.numbered few within in
     omega (arith, c.requires.room, ap length same)
 
 pub returns : goal.returns
