@@ -1,11 +1,12 @@
 -- The code of a block, one statement at a time.
-use Rattle.std.proofs.Common.{◌≡◌, ℕ, ◌+◌, ◌*◌, ◌^◌, ◌<◌, ◌≤◌, max, List, ◌∷◌, ◌++◌, length, get_or, drop, refl, sym, ap, ◌∙◌, arith, append_assoc, length-append}
+use Rattle.std.proofs.Common.{◌≡◌, ℕ, ◌+◌, ◌*◌, ◌^◌, ◌<◌, ◌≤◌, max, List, ◌∷◌, ◌++◌, length, get_or, drop, refl, sym, ap, subst, ◌∙◌, arith, append_assoc, length-append}
 use Rattle.std.proofs.lemmas.List.{drop_more, drop_all}
 use Rattle.cx_core.specs.declared.statement.Statement.{Statement}
 use Rattle.cx_core.specs.Numbered.{Numbers, stmt_of, stmts_of}
 use Rattle.cx_core.specs.Tree.{Stmt, Stmts, variable_declaration, done, next}
 use Rattle.cx_lower.specs.declared.emitter.Emitter.{Emitter}
 use Rattle.cx_lower.specs.Code.{live_behind, stmt_code, stmts_code, ends_code, stmt_most, stmts_most}
+use Rattle.cx_lower.specs.Literals.{StmtFits, StmtsFit}
 use Rattle.cx_lower.specs.Emitted.{numbers_of, index_in, code_of_statement, code_of_statements}
 use Rattle.cx_lower.proofs.Joined.{Code}
 use Rattle.cx_lower.proofs.Lengths.{length_ends}
@@ -26,7 +27,7 @@ module _ (index : List ℕ → ℕ) (exit : ℕ) where
 
   next_code : (code : Code) (base count : ℕ) (s : Stmt) (rest : Stmts)
       → let first = stmt_code index exit (base + count) (length code) s in
-        code ++ stmts_code index exit base count (length code) (next s rest) ≡ (code ++ first) ++ stmts_code index exit base (live_behind count s) (length (code ++ first)) rest
+      code ++ stmts_code index exit base count (length code) (next s rest) ≡ (code ++ first) ++ stmts_code index exit base (live_behind count s) (length (code ++ first)) rest
   unfolding stmts_code
   next_code code base count s rest =
       let first = stmt_code index exit (base + count) (length code) s in
@@ -39,6 +40,10 @@ module _ (index : List ℕ → ℕ) (exit : ℕ) where
 -- the statements from an index on
 dropped : (n : Numbers) (b : List Statement) (i : ℕ) (s : Statement) → i < length b → s ≡ get_or b i s → stmts_of n (drop i b) ≡ next (stmt_of n s) (stmts_of n (drop (i + 1) b))
 dropped n b i s within is = ap (stmts_of n) (drop_more b i s within ∙ ap (λ (x : Statement). x ∷ drop (i + 1) b) (sym is))
+
+pub next_literals : (n : Numbers) (b : List Statement) (i : ℕ) (s : Statement) → i < length b → s ≡ get_or b i s → StmtsFit (stmts_of n (drop i b)) → StmtFits (stmt_of n s) × StmtsFit (stmts_of n (drop (i + 1) b))
+unfolding StmtsFit
+next_literals n b i s within is fits = subst StmtsFit (dropped n b i s within is) fits
 
 -- `code` is what has been put of the block behind `old`, before the statement at an index
 module _ (e : Emitter) (old code : Code) (base count i : ℕ) (b : List Statement)

@@ -8,6 +8,8 @@ use Rattle.cx_core.specs.declared.statement.Statement.{Statement}
 use Rattle.cx_core.specs.declared.statement.Statement.TheVariants as statements
 use Rattle.cx_lower.specs.declared.emitter.Emitter.{Emitter}
 use Rattle.cx_lower.specs.Code.{jump, jump_zero, stmt_code}
+use Rattle.cx_core.specs.Numbered.{stmt_of}
+use Rattle.cx_lower.specs.Literals.{StmtFits}
 use Rattle.cx_lower.specs.Emitted.{numbers_of, index_in, code_of_truth, code_of_statement}
 use Rattle.cx_lower.proofs.Joined.{Code, branch_code, loop_code, then_place, else_place, body_place, length_branch, length_loop, length_opened, length_put, length_turned, length_begun, branch_closed, loop_closed}
 use Rattle.cx_lower.proofs.Opened.{opened-if, opened-while}
@@ -26,6 +28,10 @@ module _ (e : Emitter) (live : ℕ) (s : Statement) (old : Code) where
     if_is : code_of_statement e live (length old) s ≡ branch_code (length old) (code_of_truth e c) then_at else_at
     unfolding stmt_code
     if_is = ap (code_of_statement e live (length old)) is ∙ ap (stmt_code (index_in e) e.exit live (length old)) (opened-if (numbers_of e) c a b)
+
+    pub else_literals : StmtFits (stmt_of (numbers_of e) s) → StmtFits (stmt_of (numbers_of e) b.value)
+    unfolding StmtFits
+    else_literals fits = let parts = rw (is, opened-if (numbers_of e) c a b) at fits in parts.2
 
     module _ (opened first : Code) (opened_is : opened ≡ old ++ (code_of_truth e c ++ jump_zero 0 ∷ [])) (first_is : first ≡ opened ++ code_of_statement e live (length opened) a.value) where
       first_length : length first + 1 ≡ else_place (length old) (code_of_truth e c) then_at
@@ -59,6 +65,10 @@ module _ (e : Emitter) (live : ℕ) (s : Statement) (old : Code) where
     while_is : code_of_statement e live (length old) s ≡ loop_code (length old) (code_of_truth e c) body_at
     unfolding stmt_code
     while_is = ap (code_of_statement e live (length old)) is ∙ ap (stmt_code (index_in e) e.exit live (length old)) (opened-while (numbers_of e) c body)
+
+    pub body_literals : StmtFits (stmt_of (numbers_of e) s) → StmtFits (stmt_of (numbers_of e) body.value)
+    unfolding StmtFits
+    body_literals fits = let parts = rw (is, opened-while (numbers_of e) c body) at fits in parts.1
 
     pub loop_fits : HasRoom → length old < 2 ^ 24
     loop_fits room = omega (arith, room, ap length while_is, length_loop (length old) (code_of_truth e c) body_at)

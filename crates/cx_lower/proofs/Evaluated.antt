@@ -1,5 +1,5 @@
 -- The code of an assertion by its index in the unit's table.
-use Rattle.std.proofs.Common.{◌≡◌, ℕ, ◌+◌, ◌^◌, ◌<◌, ◌≤◌, [], List, length, Option, Some, None, refl, ap, inl, inr, arith}
+use Rattle.std.proofs.Common.{◌≡◌, ℕ, ◌+◌, ◌^◌, ◌<◌, ◌≤◌, [], length, Some, None, refl, ap, inl, inr, arith}
 use Rattle.std.specs.Prelude.{slice_get}
 use Rattle.std.proofs.lemmas.Option.{slice_get_past, slice_get_cases}
 use Rattle.cx_core.specs.declared.unit.CoreUnit.{CoreUnit}

@@ -1,5 +1,5 @@
 -- Code that is put behind code, and jumps in it whose targets are set later.
-use Rattle.std.proofs.Common.{◌≡◌, ℕ, ◌+◌, List, [], ◌∷◌, ◌++◌, length, refl, sym, ap, ◌∙◌, arith, append_assoc, length-append}
+use Rattle.std.proofs.Common.{◌≡◌, ℕ, ◌+◌, List, [], ◌∷◌, ◌++◌, length, sym, ap, ◌∙◌, arith, append_assoc, length-append}
 use Rattle.std.proofs.Math.ListN.{set}
 use Rattle.std.proofs.lemmas.List.{set_at, length-set}
 use Rattle.cx_code.specs.declared.code.Instruction.{Instruction}
@@ -90,21 +90,21 @@ branch_closed old opened first turned second closed truth then_at else_at over p
     let middle = front ++ jump_zero else_start ∷ then_code in
     let front_length = length-append old truth in
     let opened_length : length opened ≡ then_start =
-        omega (arith, ap length opened_is, length-append old (truth ++ jump_zero 0 ∷ []), length-append truth (jump_zero 0 ∷ [])) in
+    omega (arith, ap length opened_is, length-append old (truth ++ jump_zero 0 ∷ []), length-append truth (jump_zero 0 ∷ [])) in
     let first_from : first ≡ opened ++ then_code = first_is ∙ ap (λ (n : ℕ). opened ++ then_at n) opened_length in
     let first_length : length first + 1 ≡ else_start = omega (arith, ap length first_from, length-append opened then_code, opened_length) in
     let unturned : first ++ jump 0 ∷ [] ≡ front ++ jump_zero 0 ∷ (then_code ++ jump 0 ∷ []) = rw (first_from, opened_is) (simp append_assoc) in
     let turned_from : turned ≡ front ++ jump_zero else_start ∷ (then_code ++ jump 0 ∷ []) =
-        turned_is ∙ ap (λ (w : Code). set w over (jump_zero (length first + 1))) unturned
-        ∙ replaced front (jump_zero 0) (jump_zero (length first + 1)) (then_code ++ jump 0 ∷ []) over (omega (arith, over_is, front_length))
-        ∙ ap (λ (n : ℕ). front ++ jump_zero n ∷ (then_code ++ jump 0 ∷ [])) first_length in
+    turned_is ∙ ap (λ (w : Code). set w over (jump_zero (length first + 1))) unturned
+    ∙ replaced front (jump_zero 0) (jump_zero (length first + 1)) (then_code ++ jump 0 ∷ []) over (omega (arith, over_is, front_length))
+    ∙ ap (λ (n : ℕ). front ++ jump_zero n ∷ (then_code ++ jump 0 ∷ [])) first_length in
     let turned_length : length turned ≡ else_start =
-        omega (arith, ap length turned_from, length-append front (jump_zero else_start ∷ (then_code ++ jump 0 ∷ [])), length-append then_code (jump 0 ∷ []), front_length) in
+    omega (arith, ap length turned_from, length-append front (jump_zero else_start ∷ (then_code ++ jump 0 ∷ [])), length-append then_code (jump 0 ∷ []), front_length) in
     let second_from : second ≡ turned ++ else_code = second_is ∙ ap (λ (n : ℕ). turned ++ else_at n) turned_length in
     let second_length : length second ≡ else_start + length else_code = omega (arith, ap length second_from, length-append turned else_code, turned_length) in
     let unclosed : second ≡ middle ++ jump 0 ∷ else_code = second_from ∙ ap (λ (w : Code). w ++ else_code) turned_from ∙ simp append_assoc in
     let middle_length : past ≡ length middle =
-        omega (arith, past_is, first_length, length-append front (jump_zero else_start ∷ then_code), front_length) in
+    omega (arith, past_is, first_length, length-append front (jump_zero else_start ∷ then_code), front_length) in
     closed_is ∙ ap (λ (w : Code). set w past (jump (length second))) unclosed
     ∙ replaced middle (jump 0) (jump (length second)) else_code past middle_length
     ∙ ap (λ (n : ℕ). middle ++ jump n ∷ else_code) second_length
@@ -123,7 +123,7 @@ loop_closed old begun opened body closed truth body_at turn over turn_is begun_i
     let again = body_code ++ jump (length old + 1) ∷ [] in
     let begun_length : length begun ≡ length old + 1 = omega (arith, ap length begun_is, length-append old (jump (length old + 1) ∷ [])) in
     let opened_length : length opened ≡ body_start =
-        omega (arith, ap length opened_is, length-append begun (truth ++ jump_zero 0 ∷ []), length-append truth (jump_zero 0 ∷ []), begun_length) in
+    omega (arith, ap length opened_is, length-append begun (truth ++ jump_zero 0 ∷ []), length-append truth (jump_zero 0 ∷ []), begun_length) in
     let body_from : body ≡ opened ++ body_code = body_is ∙ ap (λ (n : ℕ). opened ++ body_at n) opened_length in
     let body_length : length body + 1 ≡ body_start + length body_code + 1 = omega (arith, ap length body_from, length-append opened body_code, opened_length) in
     let unclosed : body ++ jump turn ∷ [] ≡ front ++ jump_zero 0 ∷ again = rw (body_from, opened_is, turn_is) (simp append_assoc) in

@@ -19,6 +19,7 @@ pub mod Stored
 pub mod Valid
 pub mod Joined
 pub mod Evaluated
+pub mod Literals
 pub mod Blocks
 pub mod Branches
 pub mod Opened

@@ -1,3 +1,4 @@
 pub mod Code
 pub mod Tables
 pub mod Emitted
+pub mod Literals

@@ -4,6 +4,7 @@ ghost use Rattle.cx_typed.specs.Unit.{body_of, AreNumbered};
 ghost use Rattle.cx_typed.specs.Built.{most_weight};
 ghost use Rattle.cx_typed.specs.Weight.{stmts_weight};
 ghost use Rattle.cx_lower.specs.Code.{call, returns, stmts_most, exit_code, exit_of, body_code};
+ghost use Rattle.cx_lower.specs.Literals.{StmtsFit};
 ghost use Rattle.cx_lower.specs.Tables.{index_of, main_function, body_function};
 
 use crate::code::Code;
@@ -46,6 +47,7 @@ pub fn body_function(
     unit: &CoreUnit,
     b: &[Statement],
 ) -> Result<Function, NoMemory>
+    requires fits { StmtsFit (body_of semantic unit.now b.now) }
     requires numbered { AreNumbered 1 unit.now.assertions }
     requires light { stmts_weight (body_of semantic unit.now b.now) ≤ most_weight }
     ensures { IfOk result (λ function. function ≡ body_function (index_of unit.now.assertions) (body_of semantic unit.now b.now)) }
@@ -85,6 +87,7 @@ fn exit_of(
     b: &[Statement],
     most: u32,
 ) -> Result<u32, NoMemory>
+    requires fits { StmtsFit (body_of semantic unit.now b.now) }
     requires numbered { AreNumbered 1 unit.now.assertions }
     requires light { stmts_weight (body_of semantic unit.now b.now) ≤ most_weight }
     requires most { most ≡ stmts_most 0 (body_of semantic unit.now b.now) }
@@ -109,6 +112,7 @@ fn body_code(
     most: u32,
     exit: u32,
 ) -> Result<Items<Instruction>, NoMemory>
+    requires fits { StmtsFit (body_of semantic unit.now b.now) }
     requires numbered { AreNumbered 1 unit.now.assertions }
     requires light { stmts_weight (body_of semantic unit.now b.now) ≤ most_weight }
     requires most { most ≡ stmts_most 0 (body_of semantic unit.now b.now) }
@@ -138,10 +142,7 @@ fn put_exit(code: &mut Code, exit: u32, most: u32) -> Result<(), NoMemory>
     code.push(returns())
 }
 
-fn items_of(
-    alloc: Global,
-    instructions: &[Instruction],
-) -> Result<Items<Instruction>, NoMemory>
+fn items_of(alloc: Global, instructions: &[Instruction]) -> Result<Items<Instruction>, NoMemory>
     ensures { IfOk result (λ items. items ≡ instructions.now) }
 {
     let mut items = Items::new(alloc);

@@ -1,8 +1,10 @@
 //! The code of contract assertions.
 ghost use Rattle.std.specs.Prelude.{◌≡◌, ◌+◌, ◌^◌, ◌≤◌, ◌++◌, ℕ, length, OnOk};
+ghost use Rattle.cx_core.specs.Numbered.{operand_of};
 ghost use Rattle.cx_typed.specs.Unit.{AreNumbered};
 ghost use Rattle.cx_lower.specs.Code.{violated_code, verdict_code};
-ghost use Rattle.cx_lower.specs.Emitted.{code_of_evaluation, code_of_evaluations, code_of_check};
+ghost use Rattle.cx_lower.specs.Literals.{OperandFits};
+ghost use Rattle.cx_lower.specs.Emitted.{numbers_of, code_of_evaluation, code_of_evaluations, code_of_check};
 
 use crate::code::Code;
 use crate::emitter::Emitter;
@@ -21,6 +23,7 @@ impl<'u> Emitter<'u> {
         predicate: &Operand,
     ) -> Result<(), NoMemory>
         requires numbered { AreNumbered 1 self.now.unit.now.assertions }
+        requires fits { OperandFits (operand_of (numbers_of self.now) predicate.now) }
         requires room { length code.old + length (code_of_check self.now (length code.old) index predicate.now) ≤ 2 ^ 24 }
         ensures { OnOk result (code.new ≡ code.old ++ code_of_check self.now (length code.old) index predicate.now) }
     {
@@ -37,7 +40,8 @@ impl<'u> Emitter<'u> {
         index: u32,
         predicate: &Operand,
     ) -> Result<(), NoMemory>
-        requires { length code.old + length (code_of_evaluations self.now (length code.old) index predicate.now) ≤ 2 ^ 24 }
+        requires fits { OperandFits (operand_of (numbers_of self.now) predicate.now) }
+        requires room { length code.old + length (code_of_evaluations self.now (length code.old) index predicate.now) ≤ 2 ^ 24 }
         ensures { OnOk result (code.new ≡ code.old ++ code_of_evaluations self.now (length code.old) index predicate.now) }
     {
         match self.semantic {
@@ -54,7 +58,8 @@ impl<'u> Emitter<'u> {
         index: u32,
         predicate: &Operand,
     ) -> Result<(), NoMemory>
-        requires { length code.old + length (code_of_evaluation self.now (length code.old) index predicate.now) ≤ 2 ^ 24 }
+        requires fits { OperandFits (operand_of (numbers_of self.now) predicate.now) }
+        requires room { length code.old + length (code_of_evaluation self.now (length code.old) index predicate.now) ≤ 2 ^ 24 }
         ensures { OnOk result (code.new ≡ code.old ++ code_of_evaluation self.now (length code.old) index predicate.now) }
     {
         code.push(begin(self.semantic, index))?;

@@ -2,7 +2,8 @@
 ghost use Rattle.std.specs.Prelude.{◌≡◌, ◌+◌, ◌-◌, ◌*◌, ◌^◌, ◌≤◌, [], ◌∷◌, ◌++◌, length, OnOk, IfOk};
 ghost use Rattle.cx_core.specs.Numbered.{Numbers, expr_of, operand_of};
 ghost use Rattle.cx_lower.specs.Code.{swap, store, discard, out, jump, jump_zero, get, make, expr_code, operand_code, ends_code};
-ghost use Rattle.cx_lower.specs.Emitted.{code_of_operand, code_of_truth, code_of_discarded};
+ghost use Rattle.cx_lower.specs.Literals.{ExprFits, OperandFits, DiscardedFits};
+ghost use Rattle.cx_lower.specs.Emitted.{numbers_of, code_of_operand, code_of_truth, code_of_discarded};
 
 use crate::code::Code;
 use crate::expression::{put_expression, put_operand, put_truth};
@@ -23,7 +24,8 @@ pub struct Emitter<'u> {
 impl<'u> Emitter<'u> {
     /// An expression whose value is discarded.
     pub fn put_discarded(&self, code: &mut Code, e: &Expression) -> Result<(), NoMemory>
-        requires { length code.old + length (code_of_discarded self.now (length code.old) e.now) ≤ 2 ^ 24 }
+        requires fits { DiscardedFits (expr_of (numbers_of self.now) e.now) }
+        requires room { length code.old + length (code_of_discarded self.now (length code.old) e.now) ≤ 2 ^ 24 }
         ensures { OnOk result (code.new ≡ code.old ++ code_of_discarded self.now (length code.old) e.now) }
     {
         match e {
@@ -35,7 +37,8 @@ impl<'u> Emitter<'u> {
 
     /// A byte is written behind a jump to the next place, which stands for the step of the call.
     fn put_putchar(&self, code: &mut Code, a: &Operand) -> Result<(), NoMemory>
-        requires { length code.old + length (code_of_operand self.now a.now) + 3 ≤ 2 ^ 24 }
+        requires fits { OperandFits (operand_of (numbers_of self.now) a.now) }
+        requires room { length code.old + length (code_of_operand self.now a.now) + 3 ≤ 2 ^ 24 }
         ensures { let value = code_of_operand self.now a.now in OnOk result (code.new ≡ code.old ++ (value ++ jump (length code.old + length value + 1) ∷ out ∷ discard ∷ [])) }
     {
         put_operand(code, a)?;
@@ -47,6 +50,7 @@ impl<'u> Emitter<'u> {
 
     /// A variable is made and gets its value.
     pub fn put_variable(&self, code: &mut Code, slot: u32, a: &Operand) -> Result<(), NoMemory>
+        requires { OperandFits (operand_of (numbers_of self.now) a.now) }
         ensures { OnOk result (code.new ≡ code.old ++ make slot ∷ get slot ∷ (code_of_operand self.now a.now ++ store ∷ [])) }
     {
         code.push(make(slot))?;
@@ -57,7 +61,8 @@ impl<'u> Emitter<'u> {
 
     /// A value is returned, where so many variables are visible.
     pub fn put_return(&self, code: &mut Code, live: u32, a: &Operand) -> Result<(), NoMemory>
-        requires { live ≤ 2 ^ 24 }
+        requires fits { OperandFits (operand_of (numbers_of self.now) a.now) }
+        requires room { live ≤ 2 ^ 24 }
         ensures { OnOk result (code.new ≡ code.old ++ (code_of_operand self.now a.now ++ jump (self.now.exit - 2 * live) ∷ [])) }
     {
         put_operand(code, a)?;
@@ -66,7 +71,8 @@ impl<'u> Emitter<'u> {
 
     /// A condition, and a jump that is to lead past what is done where it holds. Result: the place of the jump.
     pub fn open_branch(&self, code: &mut Code, c: &Operand) -> Result<u32, NoMemory>
-        requires { length code.old + length (code_of_truth self.now c.now) ≤ 2 ^ 24 }
+        requires fits { OperandFits (operand_of (numbers_of self.now) c.now) }
+        requires room { length code.old + length (code_of_truth self.now c.now) ≤ 2 ^ 24 }
         ensures place { IfOk result (λ place. place ≡ length code.old + length (code_of_truth self.now c.now)) }
         ensures code { OnOk result (code.new ≡ code.old ++ (code_of_truth self.now c.now ++ jump_zero 0 ∷ [])) }
     {
@@ -78,7 +84,7 @@ impl<'u> Emitter<'u> {
 }
 
 fn put_assignment(code: &mut Code, a: &Expression, b: &Operand) -> Result<(), NoMemory>
-    ensures { (n : Numbers) → OnOk result (code.new ≡ code.old ++ (operand_code (operand_of n b.now) ++ (expr_code (expr_of n a.now) ++ swap ∷ store ∷ []))) }
+    ensures { (n : Numbers) → ExprFits (expr_of n a.now) → OperandFits (operand_of n b.now) → OnOk result (code.new ≡ code.old ++ (operand_code (operand_of n b.now) ++ (expr_code (expr_of n a.now) ++ swap ∷ store ∷ []))) }
 {
     put_operand(code, b)?;
     put_expression(code, a)?;

@@ -1,8 +1,9 @@
 //! The code of expressions and operands.
-ghost use Rattle.std.specs.Prelude.{◌≡◌, [], ◌∷◌, ◌++◌, OnOk};
+ghost use Rattle.std.specs.Prelude.{◌≡◌, ◌<◌, ◌^◌, Some, [], ◌∷◌, ◌++◌, OnOk};
 ghost use Rattle.cx_core.specs.Tree.{literal};
-ghost use Rattle.cx_core.specs.Numbered.{Numbers, constant, expr_of, operand_of, object_type_or_none};
-ghost use Rattle.cx_lower.specs.Code.{conversion_code, load_code, read_code, expr_code, operand_code, truth_code};
+ghost use Rattle.cx_core.specs.Numbered.{Numbers, base_type, constant, expr_of, operand_of, object_type_or_none};
+ghost use Rattle.cx_lower.specs.Literals.{ExprFits, OperandFits};
+ghost use Rattle.cx_lower.specs.Code.{push, conversion_code, load_code, read_code, expr_code, operand_code, truth_code};
 
 use crate::code::Code;
 use crate::instruction::{get, load, push};
@@ -13,9 +14,9 @@ use cx_types::{Base, ValueType};
 
 /// An expression, which gives a number or a place. Others than those that are built have no code.
 #[cycle(expressions)]
-#[tactic(auto, unfolding(crate::specs::Code::expr_code, crate::specs::Code::operand_code))]
+#[tactic(auto, unfolding(crate::specs::Code::expr_code, crate::specs::Code::operand_code, crate::specs::Literals::ExprFits, crate::specs::Literals::OperandFits))]
 pub fn put_expression(code: &mut Code, e: &Expression) -> Result<(), NoMemory>
-    ensures { (numbers : Numbers) → OnOk result (code.new ≡ code.old ++ expr_code (expr_of numbers e.now)) }
+    ensures { (numbers : Numbers) → ExprFits (expr_of numbers e.now) → OnOk result (code.new ≡ code.old ++ expr_code (expr_of numbers e.now)) }
 {
     match e {
         Expression::Literal(c) => put_literal(code, *c),
@@ -35,9 +36,9 @@ pub fn put_expression(code: &mut Code, e: &Expression) -> Result<(), NoMemory>
 
 /// An expression, what reads it, and its conversion.
 #[cycle(expressions)]
-#[tactic(auto, unfolding(crate::specs::Code::expr_code, crate::specs::Code::operand_code))]
+#[tactic(auto, unfolding(crate::specs::Code::expr_code, crate::specs::Code::operand_code, crate::specs::Literals::ExprFits, crate::specs::Literals::OperandFits))]
 pub fn put_operand(code: &mut Code, a: &Operand) -> Result<(), NoMemory>
-    ensures { (numbers : Numbers) → OnOk result (code.new ≡ code.old ++ operand_code (operand_of numbers a.now)) }
+    ensures { (numbers : Numbers) → OperandFits (operand_of numbers a.now) → OnOk result (code.new ≡ code.old ++ operand_code (operand_of numbers a.now)) }
 {
     put_expression(code, &a.of)?;
     put_read(code, a.read)?;
@@ -46,15 +47,16 @@ pub fn put_operand(code: &mut Code, a: &Operand) -> Result<(), NoMemory>
 
 /// The truth of an operand, which is zero for false.
 pub fn put_truth(code: &mut Code, a: &Operand) -> Result<(), NoMemory>
-    ensures { (numbers : Numbers) → OnOk result (code.new ≡ code.old ++ truth_code (operand_of numbers a.now)) }
+    ensures { (numbers : Numbers) → OperandFits (operand_of numbers a.now) → OnOk result (code.new ≡ code.old ++ truth_code (operand_of numbers a.now)) }
 {
     put_operand(code, a)?;
     code.push(convert(IntegerType::Bool))
 }
 
-#[tactic(auto, unfolding(crate::specs::Code::expr_code, crate::specs::Code::operand_code))]
+/// A number that is not negative. `nullptr` has no code.
+#[tactic(auto, unfolding(crate::specs::Code::expr_code, crate::specs::Code::operand_code, crate::specs::Literals::ExprFits, crate::specs::Literals::OperandFits))]
 fn put_literal(code: &mut Code, c: Constant) -> Result<(), NoMemory>
-    ensures { OnOk result (code.new ≡ code.old ++ expr_code (literal (constant c))) }
+    ensures { ExprFits (literal (constant c)) → OnOk result (code.new ≡ code.old ++ expr_code (literal (constant c))) }
 {
     match c {
         Constant::Number(n) if n >= 0 => put_number(code, n as u128),
@@ -62,12 +64,13 @@ fn put_literal(code: &mut Code, c: Constant) -> Result<(), NoMemory>
     }
 }
 
+/// A number that an instruction holds. Another one has no code.
 fn put_number(code: &mut Code, n: u128) -> Result<(), NoMemory>
-    ensures { OnOk result (code.new ≡ code.old ++ Rattle.cx_lower.specs.Code.push n ∷ []) }
+    ensures { n < 2 ^ 32 → OnOk result (code.new ≡ code.old ++ push n ∷ []) }
 {
     match u32::try_from(n) {
         Ok(n) => code.push(push(n)),
-        Err(_) => Err(NoMemory),
+        Err(_) => Ok(()),
     }
 }
 
@@ -82,7 +85,7 @@ fn put_read(code: &mut Code, read: Option<ValueType>) -> Result<(), NoMemory>
 }
 
 fn put_base_read(code: &mut Code, base: Base) -> Result<(), NoMemory>
-    ensures { (numbers : Numbers) → OnOk result (code.new ≡ code.old ++ read_code (Rattle.std.specs.Prelude.Some (Rattle.cx_core.specs.Numbered.base_type numbers base))) }
+    ensures { (numbers : Numbers) → OnOk result (code.new ≡ code.old ++ read_code (Some (base_type numbers base))) }
 {
     match base {
         Base::Scalar(scalar) => put_load(code, integer_of(scalar)),

@@ -4,6 +4,7 @@ ghost use Rattle.cx_core.specs.declared.statement.Statement.{Statement};
 ghost use Rattle.cx_typed.specs.Built.{most_weight, IsBuilt};
 ghost use Rattle.cx_typed.specs.Unit.{body_of, IsMainAlone, AreNumbered};
 ghost use Rattle.cx_typed.specs.Weight.{stmts_weight};
+ghost use Rattle.cx_lower.specs.Literals.{StmtsFit};
 ghost use Rattle.cx_lower.specs.Tables.{image_of};
 
 use crate::body::{body_function, main_function};
@@ -30,6 +31,7 @@ fn image_of(
     unit: &CoreUnit,
     b: &[Statement],
 ) -> Result<Image, NoMemory>
+    requires fits { StmtsFit (body_of semantic unit.now b.now) }
     requires numbered { AreNumbered 1 unit.now.assertions }
     requires few { length unit.now.assertions ≤ most_weight }
     requires light { stmts_weight (body_of semantic unit.now b.now) ≤ most_weight }

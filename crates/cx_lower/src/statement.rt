@@ -1,9 +1,10 @@
 //! The code of statements.
 ghost use Rattle.std.specs.Prelude.{◌≡◌, ◌+◌, ◌*◌, ◌^◌, ◌<◌, ◌≤◌, [], ◌∷◌, ◌++◌, length, slice_set, IfOk, OnOk};
-ghost use Rattle.cx_core.specs.Numbered.{Numbers, stmt_of};
+ghost use Rattle.cx_core.specs.Numbered.{Numbers, stmt_of, stmts_of};
 ghost use Rattle.cx_typed.specs.Unit.{AreNumbered};
 ghost use Rattle.cx_lower.specs.Code.{jump, jump_zero, live_behind};
-ghost use Rattle.cx_lower.specs.Emitted.{code_of_statement, code_of_statements};
+ghost use Rattle.cx_lower.specs.Literals.{StmtFits, StmtsFit};
+ghost use Rattle.cx_lower.specs.Emitted.{numbers_of, code_of_statement, code_of_statements};
 
 use crate::code::Code;
 use crate::emitter::{Emitter, put_ends};
@@ -14,14 +15,10 @@ use cx_outside::NoMemory;
 impl<'u> Emitter<'u> {
     /// A statement, where so many variables are visible. Others than those that are built have no code.
     #[cycle(statements)]
-    #[tactic(auto, unfolding(crate::specs::Code::stmt_code, crate::specs::Code::stmts_code))]
-    pub fn put_statement(
-        &self,
-        code: &mut Code,
-        live: u32,
-        s: &Statement,
-    ) -> Result<(), NoMemory>
+    #[tactic(auto, unfolding(crate::specs::Code::stmt_code, crate::specs::Code::stmts_code, crate::specs::Literals::StmtFits, crate::specs::Literals::StmtsFit))]
+    pub fn put_statement(&self, code: &mut Code, live: u32, s: &Statement) -> Result<(), NoMemory>
         requires numbered { AreNumbered 1 self.now.unit.now.assertions }
+        requires fits { StmtFits (stmt_of (numbers_of self.now) s.now) }
         requires room { length code.old + length (code_of_statement self.now live (length code.old) s.now) + 2 * live ≤ 2 ^ 24 }
         ensures { OnOk result (code.new ≡ code.old ++ code_of_statement self.now live (length code.old) s.now) }
     {
@@ -53,7 +50,7 @@ impl<'u> Emitter<'u> {
 
     /// The statements of a block that begins where so many variables are visible, and the ends of its variables.
     #[cycle(statements)]
-    #[tactic(auto, unfolding(crate::specs::Code::stmt_code, crate::specs::Code::stmts_code))]
+    #[tactic(auto, unfolding(crate::specs::Code::stmt_code, crate::specs::Code::stmts_code, crate::specs::Literals::StmtFits, crate::specs::Literals::StmtsFit))]
     pub fn put_statements(
         &self,
         code: &mut Code,
@@ -61,6 +58,7 @@ impl<'u> Emitter<'u> {
         b: &[Statement],
     ) -> Result<(), NoMemory>
         requires numbered { AreNumbered 1 self.now.unit.now.assertions }
+        requires fits { StmtsFit (stmts_of (numbers_of self.now) b.now) }
         requires room { length code.old + length (code_of_statements self.now base 0 (length code.old) b.now) + 2 * base ≤ 2 ^ 24 }
         ensures { OnOk result (code.new ≡ code.old ++ code_of_statements self.now base 0 (length code.old) b.now) }
     {

@@ -18,6 +18,6 @@ returns c =
     let body = body_of c.args.semantic c.args.unit.now c.args.b.now in
     let put = rw c.new-code.ensures at c.in_ok-put_statements.ensures in
     let whole : c.instructions.result.now ≡ stmts_code index c.args.exit 0 0 0 body ++ exit_code c.args.exit c.args.most =
-        c.instructions.ensures ∙ c.in_ok-put_exit.ensures ∙ ap (λ (w : Code). w ++ exit_code c.args.exit c.args.most) put in
+    c.instructions.ensures ∙ c.in_ok-put_exit.ensures ∙ ap (λ (w : Code). w ++ exit_code c.args.exit c.args.most) put in
     rw (← c.requires.exit, ← c.requires.most)
     (IfOk-weaker c.items_of.result (λ items. items ≡ c.instructions.result.now) (λ items. items ≡ stmts_code index c.args.exit 0 0 0 body ++ exit_code c.args.exit c.args.most) (λ items is. is ∙ whole) c.items_of.ensures)

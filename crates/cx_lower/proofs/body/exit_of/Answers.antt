@@ -1,6 +1,5 @@
-use Rattle.std.proofs.Common.{arith, length, ap, length-append}
+use Rattle.std.proofs.Common.{arith, length, ap}
 use Rattle.cx_typed.specs.Unit.{body_of}
-use Rattle.cx_lower.specs.Code.{stmts_code}
 use Rattle.cx_lower.specs.Tables.{index_of}
 use Rattle.cx_lower.proofs.Lengths.{short_stmts}
 use Rattle.cx_lower.proofs.body.exit_of.Goals as goal

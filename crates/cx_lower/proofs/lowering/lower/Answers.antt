@@ -1,5 +1,4 @@
-use Rattle.std.proofs.Common.{◌≡◌, [], List, refl}
-use Rattle.cx_code.specs.declared.image.Image.{Image}
+use Rattle.std.proofs.Common.{◌≡◌, [], refl}
 use Rattle.cx_core.specs.declared.unit.CoreUnit.{CoreUnit}
 use Rattle.cx_core.specs.Tree.{Stmts}
 use Rattle.cx_typed.specs.Unit.{body_of}

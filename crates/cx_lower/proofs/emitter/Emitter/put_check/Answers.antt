@@ -12,13 +12,13 @@ returns-then-index-items c =
     rw (unlisted_check emitter.semantic emitter.unit.now (length c.args.code.now) c.args.index (operand_of (numbers_of emitter) c.args.predicate.now) past)
     (sym (append-nil c.args.code.now))
 
-pub put_evaluations-requires : goal.put_evaluations-requires
-put_evaluations-requires c =
+pub put_evaluations-requires-clause-room : goal.put_evaluations-requires-clause-room
+put_evaluations-requires-clause-room c =
     let emitter = c.args.self.now in
     let within : c.args.index < length emitter.unit.now.assertions = omega (arith, ap length c.items.ensures) in
     let few : 1 + length emitter.unit.now.assertions ≤ 2 ^ 64 = omega (arith, ap length c.items.ensures) in
     let same : code_of_check emitter (length c.args.code.now) c.args.index c.args.predicate.now ≡ code_of_evaluations emitter (length c.args.code.now) c.args.index c.args.predicate.now =
-        listed_check emitter.semantic emitter.unit.now (length c.args.code.now) c.args.index (operand_of (numbers_of emitter) c.args.predicate.now) c.requires.numbered few within in
+    listed_check emitter.semantic emitter.unit.now (length c.args.code.now) c.args.index (operand_of (numbers_of emitter) c.args.predicate.now) c.requires.numbered few within in
     omega (arith, c.requires.room, ap length same)
 
 pub returns : goal.returns

@@ -10,7 +10,7 @@ put_verdict-requires c =
     let behind = verdict_code c.args.self.now.semantic (length c.args.code.now + 1 + length truth) c.args.index in
     omega (
       arith,
-      ap length (c.in_ok-put_truth.ensures (numbers_of c.args.self.now)),
+      ap length (c.in_ok-put_truth.ensures (numbers_of c.args.self.now) c.requires.fits),
       ap length c.in_ok-push.ensures,
       length-append c.push.new.self truth,
       length-append c.args.code.now (c.begin.result ∷ []),
@@ -21,13 +21,13 @@ pub returns : goal.returns
 returns c =
     let truth = code_of_truth c.args.self.now c.args.predicate.now in
     let place : length c.args.code.now + 1 + length truth ≡ length c.put_truth.new.code =
-        omega (arith, ap length (c.in_ok-put_truth.ensures (numbers_of c.args.self.now)), ap length c.in_ok-push.ensures, length-append c.push.new.self truth, length-append c.args.code.now (c.begin.result ∷ [])) in
+    omega (arith, ap length (c.in_ok-put_truth.ensures (numbers_of c.args.self.now) c.requires.fits), ap length c.in_ok-push.ensures, length-append c.push.new.self truth, length-append c.args.code.now (c.begin.result ∷ [])) in
     rw (
       place,
       pushed c.args.code.now (begin c.args.self.now.semantic c.args.index) (truth ++ verdict_code c.args.self.now.semantic (length c.put_truth.new.code) c.args.index),
       ← c.begin.ensures,
       ← c.in_ok-push.ensures,
       ← append_assoc,
-      ← c.in_ok-put_truth.ensures (numbers_of c.args.self.now),
+      ← c.in_ok-put_truth.ensures (numbers_of c.args.self.now) c.requires.fits,
     )
     c.put_verdict.ensures
