@@ -82,8 +82,8 @@ pub fn live_behind(live: u32, s: &Statement) -> u32
     }
 }
 
-/// Behind what is done where a condition holds: a jump that is to lead past what is done where it doesn't, to where the
-/// jump at the place `over` leads now. Result: the place of the new jump.
+/// Between the parts of an `if`: a jump that is to lead past the second one, to which the jump at the place `over` leads
+/// now. Result: the place of the new jump.
 fn turn_branch(code: &mut Code, over: u32) -> Result<u32, NoMemory>
     requires room { length code.old < 2 ^ 24 }
     requires within { over < length code.old }
@@ -117,7 +117,7 @@ fn open_loop(code: &mut Code) -> Result<u32, NoMemory>
     Ok(turn)
 }
 
-/// Behind a loop's body: a jump to its next turn, past which the jump at the place `over` leads now.
+/// Behind the body of a loop: a jump to its next turn. The jump at the place `over` leads past it now.
 fn close_loop(code: &mut Code, turn: u32, over: u32) -> Result<(), NoMemory>
     requires room { length code.old < 2 ^ 24 }
     requires within { over < length code.old }
