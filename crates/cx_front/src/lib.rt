@@ -2,5 +2,18 @@
 //! of the whole grammar.
 #![tactic(auto)]
 
+mod assertion;
+mod choice;
+mod comment;
+mod declaration;
+mod discarded;
+mod expression;
+mod leaf;
+mod literal;
 mod names;
+mod operand;
+mod operators;
+mod statement;
+mod token;
 mod typed;
+mod types;
