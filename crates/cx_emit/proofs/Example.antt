@@ -106,7 +106,7 @@ stands_main = record {
         (8, record { here = refl; next = refl }, refl),
       ),
     ),
-    (11, (10, (10, 10, inl (record { here = refl; next = refl }), refl, refl), (10, refl, inl refl)), refl),
+    (11, (10, 10, (10, 10, inl (record { here = refl; next = refl }), refl, refl), inl refl, (10, refl, inl refl)), refl),
   );
   ends_with_zero = record { here = refl; next = refl };
   then_exits = inr refl;

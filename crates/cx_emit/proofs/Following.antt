@@ -148,7 +148,7 @@ module _ (image : Image) (function : ℕ) (program : Program) (calls : Calls) (d
     stmt_follows tree.break around now from to st = left_follows image function program calls default around now break from to refl st
     stmt_follows tree.continue around now from to st = left_follows image function program calls default around now continue from to refl st
     stmt_follows (contract_assert c) around now from to st = stated_so image function program calls default around now now (stmt program calls (contract_assert c)) from to (assert_follows image function program calls default around now c from to st)
-    stmt_follows (return_value a) around now from to st = return_follows image function program calls default around now a from st.0 to st.1 st.2
+    stmt_follows (return_value a) around now from to st = return_follows image function program calls default around now a from st.0 st.1 to st.2 st.3 st.4
     stmt_follows (variable_declaration slot type init) around now from to st = absurd st
     stmt_follows other around now from to st = absurd st
 

@@ -138,7 +138,7 @@ y_compared = (23, (22, (22, 22, (19, 21, (19, 19, inl (record { here = refl; nex
 -- y and x end below the value
 y_returned : StandsStmt image 1 (inside in_while (0 ∷ [])) (1 ∷ []) (return_value (read 1)) 24 31
 unfolding StandsStmt StandsExpr operation_of
-y_returned = (26, (25, 26, record { here = refl; next = refl }, record { here = refl; next = refl }, refl), (28, (27, 28, record { here = refl; next = refl }, record { here = refl; next = refl }, refl), (30, (29, 30, record { here = refl; next = refl }, record { here = refl; next = refl }, refl), inr refl)))
+y_returned = (26, 26, (25, 26, record { here = refl; next = refl }, record { here = refl; next = refl }, refl), inl refl, (28, (27, 28, record { here = refl; next = refl }, record { here = refl; next = refl }, refl), (30, (29, 30, record { here = refl; next = refl }, record { here = refl; next = refl }, refl), inr refl)))
 
 y_written : StandsStmt image 1 (inside in_while (0 ∷ [])) (1 ∷ []) (expression (putchar (read 1))) 31 36
 unfolding StandsStmt StandsExpr operation_of

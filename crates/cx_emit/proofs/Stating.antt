@@ -1,5 +1,5 @@
 -- Where code stands for statements the machine follows them.
-use Rattle.std.proofs.Common.{◌≡◌, ℕ, suc, ◌+◌, length, List, [], ◌∷◌, None, true, refl, sym, ap, ◌∙◌, subst, arith}
+use Rattle.std.proofs.Common.{◌≡◌, ℕ, suc, ◌+◌, length, List, [], ◌∷◌, None, true, inl, inr, refl, sym, ap, ◌∙◌, subst, arith}
 use Rattle.cx_code.specs.declared.image.Image.{Image}
 use Rattle.cx_code.specs.declared.operation.Operation.TheVariants as does
 use Rattle.cx_code.specs.declared.run.Value.{Value}
@@ -18,14 +18,14 @@ use Rattle.cx_simulation.specs.Machine.{begins_ahead}
 use Rattle.cx_simulation.specs.ImageMachine.{image_step}
 use Rattle.cx_simulation.specs.Parts.{Follows}
 use Rattle.cx_simulation.proofs.Parts.{follows_less, follows_one, follows_gives}
-use Rattle.cx_simulation.proofs.Changes.{follows_changes}
+use Rattle.cx_simulation.proofs.Changes.{follows_changes, follows_more}
 use Rattle.cx_emit.specs.Configuration.{running_at, Has, Agrees, IsAt, Gives}
-use Rattle.cx_emit.specs.Checks.{HaveDefaultHandler, StandsCheck}
+use Rattle.cx_emit.specs.Checks.{GoesOn, HaveDefaultHandler, StandsCheck}
 use Rattle.cx_emit.specs.Stands.{StandsExpr, StandsOperand}
 use Rattle.cx_emit.specs.Scopes.{Surroundings, inside, StandsExit}
 use Rattle.cx_emit.specs.Statements.{behind, goes_on, StandsDiscarded, StandsDeclaration, StandsStmt}
 use Rattle.cx_emit.specs.Laws.{of_expression, of_operand, of_statement}
-use Rattle.cx_emit.proofs.Places.{all_kept}
+use Rattle.cx_emit.proofs.Places.{all_kept, jumps_to}
 use Rattle.cx_emit.proofs.Valuing.{account, value_then}
 use Rattle.cx_emit.proofs.Expressions.{expr_follows, used_follows}
 use Rattle.cx_emit.proofs.Asserting.{Never, never_on, is_at_on, step_to, at}
@@ -154,24 +154,50 @@ module _ (image : Image) (function : ℕ) (program : Program) (calls : Calls) (d
         (Never s m) (Never s m) _ (record { goes_on = omega arith; left = omega arith; in_hand = omega arith }) (λ _ d t g. placed image function first around.scopes now to s m d t i g) (λ e d t f. f)
         (check_follows image function program calls default Definer c from to st n [] s m (i.ready).agrees told))
 
-    pub return_follows : (a : Operand) (from p to : ℕ) → StandsOperand image function a from p → StandsExit image function (suc (length around.scopes)) (now ∷ around.scopes) p around.exit
+    -- the value stays on the operands where the machine goes on to the code that ends the objects
+    given_goes_on : (v : store.Value) (p q k : ℕ) (s t : source.State) (m d : State) → GoesOn image function p q → Gives function p [] s m v d t → t.begins ≡ begins_ahead (image_step image) k d
+        → Follows (image_step image) k t d (account 0 1 1) (Gives function q [] s m) (Never s m) (gives v t)
+    unfolding gives
+    given_goes_on v p q k s t m d (inl e) g told =
+        follows_gives (image_step image) k t d (account 0 1 1) (Gives function q [] s m) (Never s m) v (omega arith)
+        (record { machine = g.machine; value = g.value; is_there = g.is_there ∙ ap (λ r. running_at g.machine r (g.value ∷ [])) (sym e); same_value = g.same_value; agrees = g.agrees; kept = g.kept }) told
+    given_goes_on v p q k s t m d (inr h) g told =
+        follows_one (image_step image) k t d (account 0 1 1) (Gives function q [] s m) (Never s m) (on v t) (omega arith) (omega arith) told
+        (record {
+          to = running_at g.machine q (g.value ∷ []);
+          event = None;
+          goes_so = ap (image_step image) g.is_there ∙ jumps_to image function Never t g.machine p q (g.value ∷ []) g.agrees h;
+          noted_so = refl;
+          begun_so = refl;
+          same_budget = refl;
+          stands = record { machine = g.machine; value = g.value; is_there = refl; same_value = g.same_value; agrees = g.agrees; kept = g.kept };
+        })
+
+    pub return_follows : (a : Operand) (from p q to : ℕ) → StandsOperand image function a from p → GoesOn image function p q → StandsExit image function (suc (length around.scopes)) (now ∷ around.scopes) q around.exit
         → Stated image function around now now (either (full_expression program calls (either (used program calls a) (λ v. either current_frame (λ frame. result_stored program calls frame.result v) throws) throws)) (λ v. gives (return v)) throws) from to
     unfolding either current_frame gives
-    return_follows a from p to st h first n s m i told =
-        follows_less (image_step image) n s (running_at m from []) of_operand of_completion Goal Goal (Never s m) (Never s m) _ (record { goes_on = omega arith; left = omega arith; in_hand = omega arith }) (λ c d t g. g) (λ e d t f. f)
-        (follows_changes (image_step image) n s (running_at m from []) of_operand (λ v. Goal (return v)) Goal (λ o. after o (λ v. gives (return v)) throws) (full_expression program calls valued s) (λ answer trace. refl)
+    return_follows a from p q to st onwards h first n s m i told =
+        follows_less (image_step image) n s (running_at m from []) (account 11 0 0) of_completion Goal Goal (Never s m) (Never s m) _ (record { goes_on = omega arith; left = omega arith; in_hand = omega arith }) (λ c d t g. g) (λ e d t f. f)
+        (follows_changes (image_step image) n s (running_at m from []) (account 11 0 0) (λ v. Goal (return v)) Goal (λ o. after o (λ v. gives (return v)) throws) (full_expression program calls valued s) (λ answer trace. refl)
         (λ v t d g. (return v, t, refl, refl, refl, refl, g))
-        (full_changes (image_step image) program calls valued n s (running_at m from []) of_operand (λ v d t. (t.temporaries ≡ []) × Goal (return v) d (record t { temporaries = s.temporaries })) (λ v. Goal (return v)) (λ v t d g. g)
-        (follows_changes (image_step image) n inner (running_at m from []) of_operand (Gives function p [] inner m) (λ v d t. (t.temporaries ≡ []) × Goal (return v) d (record t { temporaries = s.temporaries }))
+        (full_changes (image_step image) program calls valued n s (running_at m from []) (account 11 0 0) (λ v d t. (t.temporaries ≡ []) × Goal (return v) d (record t { temporaries = s.temporaries })) (λ v. Goal (return v)) (λ v t d g. g)
+        (follows_changes (image_step image) n inner (running_at m from []) (account 11 0 0) (Gives function q [] inner m) (λ v d t. (t.temporaries ≡ []) × Goal (return v) d (record t { temporaries = s.temporaries }))
         (λ o. after o (λ v. either current_frame (λ frame. result_stored program calls frame.result v) throws) throws) (used program calls a inner) (λ answer trace. refl)
-        (λ v t d g. (v, t, stays v t (g.kept).same_frame, refl, refl, refl, ((g.kept).same_temporaries, given_there image function first around.scopes now (Reaches image function around now to) p s [] m d t v i h g)))
-        (used_follows image function Never never_on program calls a from p st n [] inner m ((with_temporaries image function s m [] i.ready).agrees) told))))
+        (λ v t d g. (v, t, stays v t (g.kept).same_frame, refl, refl, refl, ((g.kept).same_temporaries, given_there image function first around.scopes now (Reaches image function around now to) q s [] m d t v i h g)))
+        given)))
       where
         inner : source.State
         inner = record s { temporaries = [] }
 
         valued : Does store.Value
         valued = either (used program calls a) (λ v. either current_frame (λ frame. result_stored program calls frame.result v) throws) throws
+
+        given : Follows (image_step image) n inner (running_at m from []) (account 11 0 0) (Gives function q [] inner m) (Never inner m) (used program calls a inner)
+        given =
+            follows_more (image_step image) n inner (running_at m from []) of_operand (account 0 1 1) (account 11 0 0) (Gives function p [] inner m) (Gives function q [] inner m) (Never inner m) (used program calls a inner)
+            (record { goes_on = omega arith; left_first = omega arith; left_second = omega arith; in_hand = omega arith })
+            (used_follows image function Never never_on program calls a from p st n [] inner m ((with_temporaries image function s m [] i.ready).agrees) told)
+            (λ v t d k g told. given_goes_on v p q k inner t m d onwards g told)
 
         Goal : Completion → State → source.State → Type 0
         Goal = Completed image function first (now ∷ around.scopes) now (Reaches image function around now to) s m

@@ -1,7 +1,7 @@
 -- Which unit of the typed program a tree of the grammar is, by cases on the tree: `main` of blocks, variables, assignments, `if`, `while`, `return`, `putchar` and assertion statements over literals, names and the operators that compute numbers; a part of [expr], [stmt], [basic.scope] and [basic.start.main]. The names of assertions and the slots of variables are this project's own.
-use Rattle.std.specs.Prelude.{◌≡◌, ◌⊎◌, ℕ, ◌+◌, ◌<◌, suc, ◌&&◌, ◌||◌, not, Bool, true, false, if◌then◌else◌, List, [], ◌∷◌, ◌++◌, Option, Some, None, codes, length, all, slice_get, unwrap_or, nat_eq, nat_le, min, sum_by, pos}
+use Rattle.std.specs.Prelude.{◌≡◌, ◌⊎◌, ℕ, ◌+◌, ◌<◌, suc, ◌&&◌, ◌||◌, not, Bool, true, false, if◌then◌else◌, List, [], ◌∷◌, ◌++◌, Option, Some, None, codes, length, slice_get, unwrap_or, nat_eq, nat_le, min, sum_by, pos}
 use Rattle.std.specs.Option.{option_map}
-use Rattle.std.specs.List.{All, join_with_byte}
+use Rattle.std.specs.List.{All, join_with_byte, list_all}
 use Rattle.std.specs.Str.{bytes_eq}
 use Rattle.std.specs.Fmt.{decimal}
 use Rattle.cx_types.specs.declared.value_type.Scalar.{Scalar}
@@ -14,7 +14,7 @@ use Rattle.cx_syntax.specs.declared.mark.Punct.TheVariants as P
 use Rattle.cx_syntax.specs.declared.mark.Word.{Word}
 use Rattle.cx_syntax.specs.declared.mark.Word.TheVariants as W
 use Rattle.cx_syntax.specs.Tree as grammar
-use Rattle.cx_syntax.specs.Tree.{Base, Item, Params, Specs, Stars, TypeTree, UnitTree, Local, local, asserts, block, branch, branches, call, args, one, compound, declare, defined, empty, equals, evaluate, function, leaf, more_items, more_stmts, no_items, no_params, no_specs, no_stars, no_stmts, paren, returns, suffix, type_tree, while_loop, word_base}
+use Rattle.cx_syntax.specs.Tree.{Base, Item, Params, Specs, Stars, Suffix, TypeTree, UnitTree, Local, local, asserts, block, branch, branches, call, args, one, compound, declare, defined, empty, equals, evaluate, function, leaf, more_items, more_stmts, no_items, no_params, no_specs, no_stars, no_stmts, paren, returns, suffix, type_tree, while_loop, word_base}
 use Rattle.cx_syntax.specs.Place.{IsTree}
 use Rattle.cx_includes.specs.declared.assembled.Assembled.{Assembled}
 use Rattle.cx_includes.specs.declared.assembled.Placed.{Placed}
@@ -352,17 +352,13 @@ module _ (semantic : Semantic) (list : Assembled) where
     stmt_in ordinal base names (compound (block i b j)) = option_map core.block (stmts_in ordinal (length names) names b)
     stmt_in ordinal base names (evaluate e i) = discarded_in list names e
     stmt_in ordinal base names (declare l i) = declared_in list base names l
-    stmt_in ordinal base names (branch i j c k a) = if_of (expr_in list names c) (branch_in ordinal names a) (Some core.empty)
+    stmt_in ordinal base names (branch i j c k a) = if_of (expr_in list names c) (only_if (not (is_declaration a)) (stmt_in ordinal (length names) names a)) (Some core.empty)
     stmt_in ordinal base names (branches i j c k a l b) =
-        if_of (expr_in list names c) (branch_in ordinal names a) (branch_in (ordinal + length (assertions_in list ordinal a)) names b)
-    stmt_in ordinal base names (while_loop i j c k body) = both while_of (expr_in list names c) (branch_in ordinal names body)
+        if_of (expr_in list names c) (only_if (not (is_declaration a)) (stmt_in ordinal (length names) names a)) (only_if (not (is_declaration b)) (stmt_in (ordinal + length (assertions_in list ordinal a)) (length names) names b))
+    stmt_in ordinal base names (while_loop i j c k body) = both while_of (expr_in list names c) (only_if (not (is_declaration body)) (stmt_in ordinal (length names) names body))
     stmt_in ordinal base names (returns i (Some e) j) = option_map return_of (expr_in list names e)
     stmt_in ordinal base names (asserts i j e k l) = both (statement_of_check semantic list ordinal e) (slice_get list.placed i) (expr_in list names e)
     stmt_in ordinal base names other = None
-
-    -- a branch of `if`, or the body of a loop
-    pub branch_in : (ordinal : ℕ) → Names → grammar.Stmt → Option Stmt
-    branch_in ordinal names s = only_if (not (is_declaration s)) (stmt_in ordinal (length names) names s)
 
     -- the statements of a block
     pub stmts_in : (ordinal base : ℕ) → Names → grammar.Stmts → Option Stmts
@@ -404,7 +400,7 @@ abbrev pub longest_token : ℕ
 longest_token = 1024
 
 abbrev pub has_short_tokens : Assembled → Bool
-has_short_tokens list = all (λ (placed : Placed). nat_le (length (bytes_of_placed list placed)) longest_token) list.placed
+has_short_tokens list = list_all (λ (placed : Placed). nat_le (length (bytes_of_placed list placed)) longest_token) list.placed
 
 abbrev pub body_in : Semantic → Assembled → Option grammar.Stmts → Option Stmts
 body_in semantic list None = None

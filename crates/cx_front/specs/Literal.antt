@@ -35,8 +35,8 @@ escaped byte =
     if byte == 48 then Some 0 else
     if byte == 92 || byte == 39 || byte == 34 then Some byte else None
 
--- the value of a character literal: a byte or an escape in quotes
+-- the value of a character literal: of its byte or its escape, between the quotes
 abbrev pub char_value : List ℕ → Option ℕ
-char_value (39 ∷ byte ∷ 39 ∷ []) = if nat_le byte 127 then Some byte else None
-char_value (39 ∷ 92 ∷ byte ∷ 39 ∷ []) = escaped byte
+char_value (quote ∷ byte ∷ close ∷ []) = if nat_le byte 127 then Some byte else None
+char_value (quote ∷ backslash ∷ byte ∷ close ∷ []) = escaped byte
 char_value bytes = None

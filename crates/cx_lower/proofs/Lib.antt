@@ -1,0 +1,10 @@
+pub mod Operations
+pub mod Parts
+pub mod Typing
+pub mod Placed
+pub mod Instructions
+pub mod Scopes
+pub mod Expressions
+pub mod Statements
+pub mod Assertions
+pub mod Main
