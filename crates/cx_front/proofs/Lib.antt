@@ -1,2 +1,10 @@
 pub mod Files
 pub mod Literals
+pub mod Rows
+pub mod Visible
+pub mod Statements
+pub mod Arms
+pub mod Tables
+pub mod Sums
+pub mod Units
+pub mod Words

@@ -1,5 +1,6 @@
--- What is known of the parts that are made of a tree: the statements, what is visible behind them, and the assertions that were added to the table of the unit. This project's own.
-use Rattle.std.specs.Prelude.{◌≡◌, ℕ, ◌+◌, List, [], ◌∷◌, ◌++◌, Option, Some, None, length, slice_get}
+-- What is known of the parts that are made of a tree: this project's own.
+use Rattle.std.specs.Prelude.{◌≡◌, ℕ, false, List, [], ◌∷◌, ◌++◌, Option, Some, None, codes, length, not, slice_get}
+use Rattle.std.specs.Option.{option_map}
 use Rattle.std.specs.List.{All}
 use Rattle.cx_syntax.specs.Tree as grammar
 use Rattle.cx_syntax.specs.Tree.{local}
@@ -9,73 +10,71 @@ use Rattle.cx_core.specs.declared.unit.Assertion.{Assertion}
 use Rattle.cx_core.specs.declared.statement.Statement.{Statement}
 use Rattle.cx_core.specs.Words.{Semantic}
 use Rattle.cx_core.specs.Tree as core
-use Rattle.cx_core.specs.Numbered.{Numbers, stmt_of, stmts_of}
-use Rattle.cx_typed.specs.Unit.{body_of, IsMainAlone}
+use Rattle.cx_core.specs.Numbered.{Numbers}
+use Rattle.cx_core.specs.declared.unit.Function.{Function}
+use Rattle.cx_core.specs.declared.unit.ResultKind.TheVariants as results
+use Rattle.cx_typed.specs.Unit.{body_of, HasStatements, IsMainAlone}
 use Rattle.cx_front.specs.Core.{Tells}
-use Rattle.cx_front.specs.Front.{Names, DeclaresMain, all_assertions_in, assertions_in, body_in, both, branch_in, bytes_of, declared_in, entries, expr_in, name_of_file, names_after, names_behind, statement_of_check, statements_in, stmt_in, stmts_in, table_in, type_in, with_typed_name}
+use Rattle.cx_front.specs.Front.{Names, DeclaresMain, all_assertions_in, both, body_in, bytes_of, expr_in, is_declaration, name_of_file, only_if, return_of, statement_of_check, statements_in, stmt_in, stmts_in, table_in, type_in, with_typed_name}
 
--- the tree that a made part stands for, where the assertions of the table are evaluated under the semantic
-abbrev pub StandsFor : {A T : Type 0} → (Numbers → A → T) → List Assertion → (Semantic → Option T) → A → Type 0
-StandsFor view table wanted made = (n : Numbers) (semantic : Semantic) → Tells n semantic table → wanted semantic ≡ Some (view n made)
+-- the assertions of the table are evaluated under the semantic
+pub record Told (n : Numbers) (semantic : Semantic) (table : List Assertion) : Type 0 where
+  pub tells : Tells n semantic table
 
--- what is not built under any semantic
-abbrev pub IsNone : {T : Type 0} → (Semantic → Option T) → Type 0
-IsNone wanted = (semantic : Semantic) → wanted semantic ≡ None
+-- a part that is made, or none, stands for what is wanted, where the assertions of the table are evaluated under the semantic
+abbrev pub StandsFor : {A T : Type 0} → (Numbers → A → T) → List Assertion → (Semantic → Option T) → Option A → Type 0
+StandsFor view table wanted told = (n : Numbers) (semantic : Semantic) → Told n semantic table → option_map (view n) told ≡ wanted semantic
 
--- what is visible behind a declaration
-abbrev pub names_with : Names → grammar.Local → Names
-names_with names (local type name i init) = with_typed_name names name (type_in type)
-
--- from the visible variables and the table before it to those behind it
-pub record MadeStatement (list : Assembled) (base : ℕ) (names behind : Names) (table more : List Assertion) (tree : grammar.Stmt) (made : Statement) : Type 0 where
-  pub visible : behind ≡ names_behind names tree
-  pub added : more ≡ table ++ assertions_in list (length table + 1) tree
-  pub stands : StandsFor stmt_of more (λ semantic. stmt_in semantic list (length table + 1) base names tree) made
-
--- the tokens of a predicate, each behind a space
-abbrev pub spaced : List (List ℕ) → List ℕ
-spaced [] = []
-spaced (word ∷ words) = 32 ∷ (word ++ spaced words)
+-- tokens behind a text, each with a space in front
+abbrev pub spelled : List ℕ → List (List ℕ) → List ℕ
+spelled text [] = text
+spelled text (word ∷ words) = spelled (text ++ 32 ∷ word) words
 
 -- an assertion statement whose word is the token at a place
 abbrev pub is_asserted : Semantic → Assembled → (ordinal : ℕ) → Names → (i : ℕ) → grammar.Expr → Option core.Stmt
 is_asserted semantic list ordinal names i e = both (statement_of_check semantic list ordinal e) (slice_get list.placed i) (expr_in list names e)
 
-pub record MadeAssertion (list : Assembled) (names : Names) (table more : List Assertion) (i : ℕ) (e : grammar.Expr) (made : Statement) : Type 0 where
-  pub added : more ≡ table ++ entries list (length table + 1) e (slice_get list.placed i)
-  pub stands : StandsFor stmt_of more (λ semantic. is_asserted semantic list (length table + 1) names i e) made
+-- `return` with a value, where it has one
+abbrev pub returned_in : Assembled → Names → Option grammar.Expr → Option core.Stmt
+returned_in list names None = None
+returned_in list names (Some e) = option_map return_of (expr_in list names e)
 
--- a variable that is declared, which is visible behind it
-pub record MadeVariable (list : Assembled) (base : ℕ) (names behind : Names) (tree : grammar.Local) (made : Statement) : Type 0 where
-  pub visible : behind ≡ names_with names tree
-  pub stands : (n : Numbers) → declared_in list base names tree ≡ Some (stmt_of n made)
+-- what is visible behind a declaration
+abbrev pub names_with : Names → grammar.Local → Names
+names_with names (local type name i init) = with_typed_name names name (type_in type)
 
--- the same of a branch of `if` or of the body of a loop, which leaves nothing visible
-pub record MadeBranch (list : Assembled) (names behind : Names) (table more : List Assertion) (tree : grammar.Stmt) (made : Statement) : Type 0 where
-  pub visible : behind ≡ names
-  pub added : more ≡ table ++ assertions_in list (length table + 1) tree
-  pub stands : StandsFor stmt_of more (λ semantic. branch_in semantic list (length table + 1) names tree) made
+-- a branch of `if`, or the body of a loop
+abbrev pub branch_in : Semantic → Assembled → (ordinal : ℕ) → Names → grammar.Stmt → Option core.Stmt
+branch_in semantic list ordinal names s = only_if (not (is_declaration s)) (stmt_in semantic list ordinal (length names) names s)
 
--- the same of the statements of a block
-pub record MadeStatements (list : Assembled) (base : ℕ) (names behind : Names) (table more : List Assertion) (tree : grammar.Stmts) (made : List Statement) : Type 0 where
-  pub visible : behind ≡ names_after names tree
-  pub added : more ≡ table ++ all_assertions_in list (length table + 1) tree
-  pub stands : StandsFor stmts_of more (λ semantic. stmts_in semantic list (length table + 1) base names tree) made
+-- a definition of `main` with these statements
+pub record IsMain (statements : List Statement) (main : Function) : Type 0 where
+  pub is_named : main.name ≡ codes "main"
+  pub may_throw : main.noexcept ≡ false
+  pub gives_status : main.result ≡ results.ExitStatus
+  pub no_preconditions : main.preconditions ≡ []
+  pub no_postconditions : main.postconditions ≡ []
+  pub is_defined : HasStatements main.body statements
 
--- the same of a block
-pub record MadeBlock (list : Assembled) (names behind : Names) (table more : List Assertion) (tree : grammar.Stmts) (made : List Statement) : Type 0 where
-  pub visible : behind ≡ names
-  pub added : more ≡ table ++ all_assertions_in list (length table + 1) tree
-  pub stands : StandsFor stmts_of more (λ semantic. stmts_in semantic list (length table + 1) (length names) names tree) made
-
--- the unit is that of the tree
-pub record MadeUnit (list : Assembled) (tree : grammar.UnitTree) (unit : CoreUnit) : Type 0 where
-  pub statements : List Statement
+-- the unit of a list that defines `main` with these statements, and nothing else
+pub record IsUnitWith (list : Assembled) (statements : List Statement) (unit : CoreUnit) : Type 0 where
   pub alone : IsMainAlone unit statements
   pub declares : All (DeclaresMain list) unit.functions
-  pub body : (semantic : Semantic) → body_in semantic list (statements_in list tree) ≡ Some (body_of semantic unit statements)
-  pub assertions : unit.assertions ≡ table_in list (statements_in list tree)
   pub name : unit.name ≡ name_of_file list 0
   pub no_calls : unit.calls ≡ []
   pub tokens : unit.tokens ≡ length list.placed
   pub bytes : unit.bytes ≡ bytes_of list
+
+-- the unit of a list whose `main` has the statements of a tree
+pub record MadeOf (list : Assembled) (tree : grammar.Stmts) (unit : CoreUnit) : Type 0 where
+  pub statements : List Statement
+  pub is : IsUnitWith list statements unit
+  pub body : (semantic : Semantic) → stmts_in semantic list 1 0 [] tree ≡ Some (body_of semantic unit statements)
+  pub assertions : unit.assertions ≡ all_assertions_in list 1 tree
+
+-- the unit is that of the tree
+pub record MadeUnit (list : Assembled) (tree : grammar.UnitTree) (unit : CoreUnit) : Type 0 where
+  pub statements : List Statement
+  pub is : IsUnitWith list statements unit
+  pub body : (semantic : Semantic) → body_in semantic list (statements_in list tree) ≡ Some (body_of semantic unit statements)
+  pub assertions : unit.assertions ≡ table_in list (statements_in list tree)

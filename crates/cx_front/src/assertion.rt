@@ -1,10 +1,11 @@
-ghost use Rattle.std.specs.Prelude.{◌≡◌, ◌+◌, ◌<◌, ◌∷◌, [], ◌++◌, IfOk, MatchOption, codes, length};
+ghost use Rattle.std.specs.Prelude.{◌≡◌, ◌+◌, ◌++◌, IfOk, OnSome, codes, length, slice_get};
 ghost use Rattle.std.specs.Fmt.{decimal};
 ghost use Rattle.std.specs.List.{All};
 ghost use Rattle.cx_includes.specs.Assembled.{IsWithin};
 ghost use Rattle.cx_syntax.specs.View.{expr_of};
-ghost use Rattle.cx_front.specs.Front.{comment_in, entry_at, name_of_file};
-ghost use Rattle.cx_front.specs.Made.{IsNone, MadeAssertion, is_asserted};
+ghost use Rattle.cx_core.specs.Numbered.{stmt_of};
+ghost use Rattle.cx_front.specs.Front.{entries, entry_at};
+ghost use Rattle.cx_front.specs.Made.{StandsFor, is_asserted};
 
 use crate::comment::comment_in;
 use crate::expression::expr_in;
@@ -29,20 +30,21 @@ pub fn asserted_in(
     predicate: &Expr,
 ) -> Result<Option<Statement>, NoMemory>
     requires { All (IsWithin list.now.files) list.now.placed }
-    ensures { IfOk result (λ told. MatchOption told
-        (IsNone (λ semantic. is_asserted semantic list.now (length assertions.old + 1) names.now at (expr_of predicate.now)))
-        (MadeAssertion list.now names.now assertions.old assertions.new at (expr_of predicate.now))) }
+    ensures stands { IfOk result (StandsFor stmt_of assertions.new (λ semantic. is_asserted semantic list.now (length assertions.old + 1) names.now at (expr_of predicate.now))) }
+    ensures added { IfOk result (λ told. OnSome told (assertions.new ≡ assertions.old ++ entries list.now (length assertions.old + 1) (expr_of predicate.now) (slice_get list.now.placed at))) }
 {
-    match (
-        list.items().get(at as usize),
-        expr_in(alloc, list, names, predicate)?,
-    ) {
-        (Some(word), Some(told)) => {
-            let index = number_of(assertions.items().len())?;
-            assertions.push(entry_at(alloc, list, index, word, predicate)?)?;
-            Ok(Some(Statement::ContractAssert(index, as_condition(told))))
-        }
-        _ => Ok(None),
+    let told = expr_in(alloc, list, names, predicate)?;
+    match told {
+        Some(told) => match list.items().get(at as usize) {
+            Some(word) => {
+                let index = number_of(assertions.items().len())?;
+                let entry = entry_at(alloc, list, index, word, predicate)?;
+                assertions.push(entry)?;
+                Ok(Some(Statement::ContractAssert(index, as_condition(told))))
+            }
+            None => Ok(None),
+        },
+        None => Ok(None),
     }
 }
 

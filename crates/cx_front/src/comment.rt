@@ -1,9 +1,9 @@
-ghost use Rattle.std.specs.Prelude.{◌≡◌, ◌∷◌, ◌++◌, IfOk, OnOk};
+ghost use Rattle.std.specs.Prelude.{◌≡◌, ◌∷◌, ◌++◌, IfOk, OnOk, drop};
 ghost use Rattle.std.specs.List.{All};
 ghost use Rattle.cx_includes.specs.Assembled.{IsWithin};
 ghost use Rattle.cx_syntax.specs.View.{expr_of};
 ghost use Rattle.cx_front.specs.Front.{comment_in, word_at, words_in};
-ghost use Rattle.cx_front.specs.Made.{spaced};
+ghost use Rattle.cx_front.specs.Made.{spelled};
 
 use crate::token::word_at;
 use cx_includes::Assembled;
@@ -12,22 +12,31 @@ use cx_syntax::tree::Expr;
 use std::alloc::Global;
 
 /// The tokens of a predicate with one space between two, as `comment()` of a violation gives them. This project's own.
+#[tactic(auto, using(crate::proofs::Words::comment_from))]
 pub fn comment_in(alloc: Global, list: &Assembled, tree: &Expr) -> Result<Text, NoMemory>
     requires { All (IsWithin list.now.files) list.now.placed }
     ensures { IfOk result (λ comment. comment ≡ comment_in list.now (expr_of tree.now)) }
 {
     let mut words = Text::new(alloc);
     add_words(list, &mut words, tree)?;
-    match words.bytes() {
-        [] => Ok(Text::new(alloc)),
-        [_, behind @ ..] => Text::copy_of(alloc, behind),
+    Text::copy_of(alloc, behind_first(words.bytes()))
+}
+
+/// Bytes without the first of them.
+fn behind_first(bytes: &[u8]) -> &[u8]
+    ensures { result.now ≡ drop 1 bytes.now }
+{
+    match bytes {
+        [] => &[],
+        [_, behind @ ..] => behind,
     }
 }
 
 /// Adds the tokens of an expression that is built, each behind a space.
+#[tactic(auto, using(crate::proofs::Words::spelled_append))]
 fn add_words(list: &Assembled, words: &mut Text, tree: &Expr) -> Result<(), NoMemory>
     requires { All (IsWithin list.now.files) list.now.placed }
-    ensures { OnOk result (words.new ≡ words.old ++ spaced (words_in list.now (expr_of tree.now))) }
+    ensures { OnOk result (words.new ≡ spelled words.old (words_in list.now (expr_of tree.now))) }
 {
     match tree {
         Expr::Leaf { at, .. } => add_word(list, words, *at),

@@ -1,11 +1,11 @@
-ghost use Rattle.std.specs.Prelude.{◌≡◌, IfOk, IfSome, MatchOption, None, Option, Some, false, length, option_map};
+ghost use Rattle.std.specs.Prelude.{◌≡◌, ◌&&◌, IfOk, OnSome, length, option_map};
 ghost use Rattle.std.specs.List.{All};
 ghost use Rattle.cx_includes.specs.Assembled.{IsWithin};
 ghost use Rattle.cx_syntax.specs.View.{init_of, local_of, stmt_of};
 ghost use Rattle.cx_core.specs.Numbered.{Numbers, stmt_of as core_of};
 ghost use Rattle.cx_front.specs.Core.{typed_of};
-ghost use Rattle.cx_front.specs.Front.{declared, declared_in, initialised_in, is_declaration, is_new, may_name, with_name, with_typed_name};
-ghost use Rattle.cx_front.specs.Made.{MadeVariable};
+ghost use Rattle.cx_front.specs.Front.{declared, declared_in, initialised_in, Names, is_declaration, is_new, may_name, with_name, word_at};
+ghost use Rattle.cx_front.specs.Made.{names_with};
 
 use crate::expression::expr_in;
 use crate::names::{Slot, Variable, found, number_of, value_type};
@@ -29,12 +29,11 @@ pub fn declared_in(
     local: &Local,
 ) -> Result<Option<Statement>, NoMemory>
     requires { All (IsWithin list.now.files) list.now.placed }
-    ensures { IfOk result (λ told. MatchOption told
-        (declared_in list.now base names.old.items (local_of local.now) ≡ None)
-        (MadeVariable list.now base names.old.items names.new.items (local_of local.now))) }
+    ensures told { IfOk result (λ told. (n : Numbers) → option_map (core_of n) told ≡ declared_in list.now base names.old.items (local_of local.now)) }
+    ensures visible { IfOk result (λ told. OnSome told (names.new.items ≡ names_with names.old.items (local_of local.now))) }
 {
     let before = found(local.name, names.as_slice())?;
-    if is_new(base, before) && may_name(word_at(list, local.name_at)) {
+    if may_declare(list, base, before, local.name_at) {
         match type_in(&local.of) {
             Some(of) => initialised_in(alloc, list, names, local.name, &local.init, of),
             None => Ok(None),
@@ -42,6 +41,15 @@ pub fn declared_in(
     } else {
         Ok(None)
     }
+}
+
+/// Whether a variable may have the name at a place, in a block that began with `base` variables, where the name denoted
+/// another before.
+fn may_declare(list: &Assembled, base: usize, before: Option<Slot>, at: u32) -> bool
+    requires { All (IsWithin list.now.files) list.now.placed }
+    ensures { result ≡ (is_new base before && may_name (word_at list.now at)) }
+{
+    is_new(base, before) && may_name(word_at(list, at))
 }
 
 /// Whether a variable isn't of the block that began with `base` variables.
@@ -72,7 +80,7 @@ fn initialised_in(
 ) -> Result<Option<Statement>, NoMemory>
     requires { All (IsWithin list.now.files) list.now.placed }
     ensures told { IfOk result (λ told. (n : Numbers) → option_map (core_of n) told ≡ initialised_in list.now names.old.items name (init_of init.now) of) }
-    ensures visible { IfOk result (λ told. IfSome told (λ made. names.new.items ≡ with_name names.old.items name of)) }
+    ensures visible { IfOk result (λ told. OnSome told (names.new.items ≡ with_name names.old.items name of)) }
 {
     match init {
         Init::Equals { value, .. } => {

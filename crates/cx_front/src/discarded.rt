@@ -1,10 +1,11 @@
-ghost use Rattle.std.specs.Prelude.{◌≡◌, IfOk, option_map};
+ghost use Rattle.std.specs.Prelude.{◌≡◌, ℕ, IfOk, option_map};
 ghost use Rattle.std.specs.List.{All};
 ghost use Rattle.cx_includes.specs.Assembled.{IsWithin};
-ghost use Rattle.cx_syntax.specs.View.{args_of, expr_of};
+ghost use Rattle.cx_syntax.specs.View.{args_of, expr_of, several_of};
+ghost use Rattle.cx_syntax.specs.Tree.{args};
 ghost use Rattle.cx_core.specs.Numbered.{Numbers, stmt_of};
 ghost use Rattle.cx_front.specs.Core.{typed_of};
-ghost use Rattle.cx_front.specs.Front.{argument_in, assigned, both, discarded_in, is_after, is_assign, is_putchar, target_in, written};
+ghost use Rattle.cx_front.specs.Front.{argument_in, assigned, both, discarded_in, expr_in, is_after, is_assign, is_putchar, target_in, written};
 
 use crate::expression::expr_in;
 use crate::names::{Slot, Variable, found};
@@ -34,9 +35,7 @@ pub fn discarded_in(
             left, punct, right, ..
         } => {
             if is_assign(*punct) {
-                let target = target_in(names, left)?;
-                let value = expr_in(alloc, list, names, right)?;
-                assigned(alloc, target, value)
+                assigned_in(alloc, list, names, left, right)
             } else {
                 Ok(None)
             }
@@ -45,13 +44,23 @@ pub fn discarded_in(
             callee, arguments, ..
         } => {
             if is_putchar(list, callee) {
-                let value = argument_in(alloc, list, names, arguments)?;
-                written(alloc, value)
+                written_in(alloc, list, names, arguments)
             } else {
                 Ok(None)
             }
         }
-        _ => Ok(None),
+        Expr::Leaf { .. } => Ok(None),
+        Expr::Paren { .. } => Ok(None),
+        Expr::Temporary { .. } => Ok(None),
+        Expr::WordCast { .. } => Ok(None),
+        Expr::StaticCast { .. } => Ok(None),
+        Expr::Standard { .. } => Ok(None),
+        Expr::Library { .. } => Ok(None),
+        Expr::Member { .. } => Ok(None),
+        Expr::Stepped { .. } => Ok(None),
+        Expr::Unary { .. } => Ok(None),
+        Expr::Binary { .. } => Ok(None),
+        Expr::Choose { .. } => Ok(None),
     }
 }
 
@@ -65,16 +74,64 @@ fn is_assign(punct: Punct) -> bool
     }
 }
 
+/// An assignment, if its left side is a variable and its right side is built.
+fn assigned_in(
+    alloc: Global,
+    list: &Assembled,
+    names: &[Variable],
+    left: &Expr,
+    right: &Expr,
+) -> Result<Option<Statement>, NoMemory>
+    requires { All (IsWithin list.now.files) list.now.placed }
+    ensures { IfOk result (λ told. (n : Numbers) → option_map (stmt_of n) told ≡ both assigned (target_in names.now (expr_of left.now)) (expr_in list.now names.now (expr_of right.now))) }
+{
+    let target = target_in(names, left)?;
+    let value = expr_in(alloc, list, names, right)?;
+    assigned(alloc, target, value)
+}
+
+/// A call of `putchar`, if its argument is built.
+fn written_in(
+    alloc: Global,
+    list: &Assembled,
+    names: &[Variable],
+    arguments: &Args,
+) -> Result<Option<Statement>, NoMemory>
+    requires { All (IsWithin list.now.files) list.now.placed }
+    ensures { IfOk result (λ told. (n : Numbers) → option_map (stmt_of n) told ≡ option_map written (argument_in list.now names.now (args_of arguments.now))) }
+{
+    let value = argument_in(alloc, list, names, arguments)?;
+    written(alloc, value)
+}
+
 /// The variable that an expression names, if it is a name of one.
 fn target_in(names: &[Variable], tree: &Expr) -> Result<Option<Slot>, NoMemory>
     ensures { IfOk result (λ told. told ≡ target_in names.now (expr_of tree.now)) }
 {
     match tree {
-        Expr::Leaf {
-            mark: Mark::Name(name),
-            ..
-        } => found(*name, names),
-        _ => Ok(None),
+        Expr::Leaf { mark, .. } => match *mark {
+            Mark::Name(name) => found(name, names),
+            Mark::Class(_) => Ok(None),
+            Mark::Std => Ok(None),
+            Mark::Word(_) => Ok(None),
+            Mark::Number => Ok(None),
+            Mark::Char => Ok(None),
+            Mark::Text => Ok(None),
+            Mark::Punct(_) => Ok(None),
+        },
+        Expr::Paren { .. } => Ok(None),
+        Expr::Temporary { .. } => Ok(None),
+        Expr::WordCast { .. } => Ok(None),
+        Expr::StaticCast { .. } => Ok(None),
+        Expr::Standard { .. } => Ok(None),
+        Expr::Library { .. } => Ok(None),
+        Expr::Member { .. } => Ok(None),
+        Expr::Call { .. } => Ok(None),
+        Expr::Stepped { .. } => Ok(None),
+        Expr::Unary { .. } => Ok(None),
+        Expr::Binary { .. } => Ok(None),
+        Expr::Choose { .. } => Ok(None),
+        Expr::Assign { .. } => Ok(None),
     }
 }
 
@@ -86,15 +143,18 @@ fn assigned(
 ) -> Result<Option<Statement>, NoMemory>
     ensures { IfOk result (λ told. (n : Numbers) → option_map (stmt_of n) told ≡ both assigned target (option_map (typed_of n) value)) }
 {
-    match (target, value) {
-        (Some(target), Some(value)) => {
-            let place = Box::new(alloc, Expression::Variable(target.slot))?;
-            let value = Box::new(alloc, as_type(target.of, value))?;
-            Ok(Some(Statement::Expression(Expression::Assign(
-                place, value,
-            ))))
-        }
-        _ => Ok(None),
+    match target {
+        Some(target) => match value {
+            Some(value) => {
+                let place = Box::new(alloc, Expression::Variable(target.slot))?;
+                let value = Box::new(alloc, as_type(target.of, value))?;
+                Ok(Some(Statement::Expression(Expression::Assign(
+                    place, value,
+                ))))
+            }
+            None => Ok(None),
+        },
+        None => Ok(None),
     }
 }
 
@@ -104,11 +164,31 @@ fn is_putchar(list: &Assembled, tree: &Expr) -> bool
     ensures { result ≡ is_putchar list.now (expr_of tree.now) }
 {
     match tree {
-        Expr::Leaf {
-            at,
-            mark: Mark::Name(_),
-        } => is_after(list.cstdio, *at) && word_at(list, *at) == b"putchar".as_slice(),
-        _ => false,
+        Expr::Leaf { at, mark } => match *mark {
+            Mark::Name(_) => {
+                is_after(list.cstdio, *at) && word_at(list, *at) == b"putchar".as_slice()
+            }
+            Mark::Class(_) => false,
+            Mark::Std => false,
+            Mark::Word(_) => false,
+            Mark::Number => false,
+            Mark::Char => false,
+            Mark::Text => false,
+            Mark::Punct(_) => false,
+        },
+        Expr::Paren { .. } => false,
+        Expr::Temporary { .. } => false,
+        Expr::WordCast { .. } => false,
+        Expr::StaticCast { .. } => false,
+        Expr::Standard { .. } => false,
+        Expr::Library { .. } => false,
+        Expr::Member { .. } => false,
+        Expr::Call { .. } => false,
+        Expr::Stepped { .. } => false,
+        Expr::Unary { .. } => false,
+        Expr::Binary { .. } => false,
+        Expr::Choose { .. } => false,
+        Expr::Assign { .. } => false,
     }
 }
 
@@ -134,16 +214,23 @@ fn argument_in(
 {
     match arguments {
         Args::Empty { .. } => Ok(None),
-        Args::List {
-            list: Several { first, more },
-            ..
-        } => {
-            if more.is_empty() {
-                expr_in(alloc, list, names, first)
-            } else {
-                Ok(None)
-            }
-        }
+        Args::List { list: several, .. } => only_of(alloc, list, names, several),
+    }
+}
+
+/// The expression of a row of arguments, if there is one alone and it is built.
+fn only_of(
+    alloc: Global,
+    list: &Assembled,
+    names: &[Variable],
+    several: &Several,
+) -> Result<Option<TypedExpression>, NoMemory>
+    requires { All (IsWithin list.now.files) list.now.placed }
+    ensures { IfOk result (λ told. (n : Numbers) (i j : ℕ) → option_map (typed_of n) told ≡ argument_in list.now names.now (args i (several_of several.now) j)) }
+{
+    match several.more.as_slice() {
+        [] => expr_in(alloc, list, names, &several.first),
+        [_, ..] => Ok(None),
     }
 }
 

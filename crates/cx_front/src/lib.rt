@@ -8,12 +8,18 @@ mod comment;
 mod declaration;
 mod discarded;
 mod expression;
+mod front;
 mod leaf;
 mod literal;
+mod main_function;
 mod names;
 mod operand;
 mod operators;
+mod returned;
 mod statement;
 mod token;
 mod typed;
 mod types;
+mod unit;
+
+pub use front::unit_of;

@@ -67,13 +67,13 @@ fn with_digit(value: u64, byte: u8) -> u64
     }
 }
 
-/// The value of a character literal, if the bytes are one that is built: a byte or an escape in quotes [lex.ccon].
+/// The value of a character literal, if it is one that is built: a byte or an escape between its quotes [lex.ccon].
 pub fn char_value(bytes: &[u8]) -> Option<u8>
     ensures { result ≡ char_value bytes.now }
 {
     match bytes {
-        [b'\'', byte, b'\''] => plain_value(*byte),
-        [b'\'', b'\\', byte, b'\''] => escaped(*byte),
+        [_, byte, _] => plain_value(*byte),
+        [_, _, byte, _] => escaped(*byte),
         _ => None,
     }
 }

@@ -82,17 +82,20 @@ pub fn with_operand(
 ) -> Result<Option<TypedExpression>, NoMemory>
     ensures { IfOk result (λ told. (n : Numbers) → option_map (typed_of n) told ≡ both with_operand operator (option_map (typed_of n) operand)) }
 {
-    match (operator, operand) {
-        (Some(operator), Some(operand)) => {
-            let computed = unary_type(operator);
-            let operand = Box::new(alloc, as_type(computed, operand))?;
-            Ok(Some(TypedExpression {
-                read: None,
-                gives: computed,
-                of: Expression::Unary(operator, computed, operand),
-            }))
-        }
-        _ => Ok(None),
+    match operator {
+        Some(operator) => match operand {
+            Some(operand) => {
+                let computed = unary_type(operator);
+                let operand = Box::new(alloc, as_type(computed, operand))?;
+                Ok(Some(TypedExpression {
+                    read: None,
+                    gives: computed,
+                    of: Expression::Unary(operator, computed, operand),
+                }))
+            }
+            None => Ok(None),
+        },
+        None => Ok(None),
     }
 }
 
@@ -105,16 +108,32 @@ pub fn with_operands(
 ) -> Result<Option<TypedExpression>, NoMemory>
     ensures { IfOk result (λ told. (n : Numbers) → option_map (typed_of n) told ≡ with_operands operator (option_map (typed_of n) left) (option_map (typed_of n) right)) }
 {
-    match (operator, left, right) {
-        (Some(operator), Some(left), Some(right)) => {
-            let left = Box::new(alloc, as_type(IntegerType::Int, left))?;
-            let right = Box::new(alloc, as_type(IntegerType::Int, right))?;
-            Ok(Some(TypedExpression {
-                read: None,
-                gives: binary_type(operator),
-                of: Expression::Binary(operator, IntegerType::Int, left, right),
-            }))
-        }
-        _ => Ok(None),
+    match operator {
+        Some(operator) => match left {
+            Some(left) => match right {
+                Some(right) => Ok(Some(with_both(alloc, operator, left, right)?)),
+                None => Ok(None),
+            },
+            None => Ok(None),
+        },
+        None => Ok(None),
     }
+}
+
+/// An operator between two operands.
+fn with_both(
+    alloc: Global,
+    operator: BinaryOperator,
+    left: TypedExpression,
+    right: TypedExpression,
+) -> Result<TypedExpression, NoMemory>
+    ensures { IfOk result (λ told. (n : Numbers) → typed_of n told ≡ with_both operator (typed_of n left) (typed_of n right)) }
+{
+    let left = Box::new(alloc, as_type(IntegerType::Int, left))?;
+    let right = Box::new(alloc, as_type(IntegerType::Int, right))?;
+    Ok(TypedExpression {
+        read: None,
+        gives: binary_type(operator),
+        of: Expression::Binary(operator, IntegerType::Int, left, right),
+    })
 }

@@ -1,20 +1,23 @@
-ghost use Rattle.std.specs.Prelude.{◌≡◌, ◌+◌, IfOk, MatchOption, length};
+ghost use Rattle.std.specs.Prelude.{◌≡◌, ◌+◌, ◌++◌, IfOk, OnSome, Some, length, option_map};
 ghost use Rattle.std.specs.List.{All};
 ghost use Rattle.cx_includes.specs.Assembled.{IsWithin};
-ghost use Rattle.cx_syntax.specs.View.{stmt_of, stmts_of};
-ghost use Rattle.cx_front.specs.Front.{branch_in, stmt_in, stmts_in};
-ghost use Rattle.cx_front.specs.Made.{IsNone, MadeBlock, MadeBranch, MadeStatement, MadeStatements};
+ghost use Rattle.cx_syntax.specs.View.{expr_of, stmt_of, stmts_of};
+ghost use Rattle.cx_core.specs.Tree.{block, empty};
+ghost use Rattle.cx_core.specs.Numbered.{stmt_of as core_of, stmts_of as cores_of};
+ghost use Rattle.cx_front.specs.Front.{all_assertions_in, assertions_in, both, expr_in, if_of, names_after, names_behind, stmt_in, stmts_in, while_of};
+ghost use Rattle.cx_front.specs.Made.{StandsFor, branch_in};
 
 use crate::assertion::asserted_in;
-use crate::choice::{block_of, if_alone, if_else, return_of, while_loop};
+use crate::choice::{if_alone, if_else, while_loop};
 use crate::declaration::{declared_in, is_declaration};
 use crate::discarded::discarded_in;
 use crate::expression::expr_in;
 use crate::names::Variable;
+use crate::returned::returned_in;
 use cx_core::{Assertion, Statement};
 use cx_includes::Assembled;
 use cx_outside::{Items, NoMemory};
-use cx_syntax::tree::Stmt;
+use cx_syntax::tree::{Expr, Stmt};
 use std::alloc::Global;
 
 /// The statement of a tree, if it is one that is built: blocks, variables, assignments, `putchar`, `if`, `while`, `return`
@@ -29,6 +32,15 @@ use std::alloc::Global;
 /// It calls itself, through the others below, for each level of the tree: what it needs beside that is done by others,
 /// so that a level takes little stack.
 #[cycle(statement)]
+#[tactic(
+    auto,
+    unfolding(
+        crate::specs::Front::stmt_in,
+        crate::specs::Front::stmts_in,
+        crate::specs::Front::assertions_in,
+        crate::specs::Front::all_assertions_in
+    )
+)]
 pub fn statement_in(
     alloc: Global,
     list: &Assembled,
@@ -38,54 +50,30 @@ pub fn statement_in(
     tree: &Stmt,
 ) -> Result<Option<Statement>, NoMemory>
     requires { All (IsWithin list.now.files) list.now.placed }
-    ensures { IfOk result (λ told. MatchOption told
-        (IsNone (λ semantic. stmt_in semantic list.now (length assertions.old + 1) base names.old.items (stmt_of tree.now)))
-        (MadeStatement list.now base names.old.items names.new.items assertions.old assertions.new (stmt_of tree.now))) }
+    ensures stands { IfOk result (StandsFor core_of assertions.new (λ semantic. stmt_in semantic list.now (length assertions.old + 1) base names.old.items (stmt_of tree.now))) }
+    ensures visible { IfOk result (λ told. OnSome told (names.new.items ≡ names_behind names.old.items (stmt_of tree.now))) }
+    ensures added { IfOk result (λ told. OnSome told (assertions.new ≡ assertions.old ++ assertions_in list.now (length assertions.old + 1) (stmt_of tree.now))) }
 {
     match tree {
         Stmt::Empty { .. } => Ok(Some(Statement::Empty)),
         Stmt::Compound(block) => {
-            let told = block_in(alloc, list, names, assertions, block.statements.as_slice())?;
-            Ok(block_of(told))
+            compound_in(alloc, list, names, assertions, block.statements.as_slice())
         }
         Stmt::Evaluate { value, .. } => discarded_in(alloc, list, names.as_slice(), value),
         Stmt::Declare { local, .. } => declared_in(alloc, list, base, names, local),
         Stmt::Branch {
             condition, body, ..
-        } => {
-            let condition = expr_in(alloc, list, names.as_slice(), condition)?;
-            let body = branch_in(alloc, list, names, assertions, body)?;
-            if_alone(alloc, condition, body)
-        }
+        } => if_alone_in(alloc, list, names, assertions, condition, body),
         Stmt::Branches {
             condition,
             body,
             other_body,
             ..
-        } => {
-            let condition = expr_in(alloc, list, names.as_slice(), condition)?;
-            match branch_in(alloc, list, names, assertions, body)? {
-                Some(body) => {
-                    let other = branch_in(alloc, list, names, assertions, other_body)?;
-                    if_else(alloc, condition, body, other)
-                }
-                None => Ok(None),
-            }
-        }
+        } => if_else_in(alloc, list, names, assertions, condition, body, other_body),
         Stmt::While {
             condition, body, ..
-        } => {
-            let condition = expr_in(alloc, list, names.as_slice(), condition)?;
-            let body = branch_in(alloc, list, names, assertions, body)?;
-            while_loop(alloc, condition, body)
-        }
-        Stmt::Return {
-            value: Some(value), ..
-        } => {
-            let value = expr_in(alloc, list, names.as_slice(), value)?;
-            Ok(return_of(value))
-        }
-        Stmt::Return { value: None, .. } => Ok(None),
+        } => while_in(alloc, list, names, assertions, condition, body),
+        Stmt::Return { value, .. } => returned_in(alloc, list, names.as_slice(), value),
         Stmt::Assert { at, predicate, .. } => {
             asserted_in(alloc, list, names.as_slice(), assertions, *at, predicate)
         }
@@ -97,8 +85,117 @@ pub fn statement_in(
     }
 }
 
+/// A block of statements, if they are ones that are built [stmt.block].
+#[cycle(statement)]
+fn compound_in(
+    alloc: Global,
+    list: &Assembled,
+    names: &mut Vec<Variable>,
+    assertions: &mut Items<Assertion>,
+    statements: &[Stmt],
+) -> Result<Option<Statement>, NoMemory>
+    requires { All (IsWithin list.now.files) list.now.placed }
+    ensures stands { IfOk result (StandsFor core_of assertions.new (λ semantic. option_map block (stmts_in semantic list.now (length assertions.old + 1) (length names.old.items) names.old.items (stmts_of statements.now)))) }
+    ensures visible { IfOk result (λ told. OnSome told (names.new.items ≡ names.old.items)) }
+    ensures added { IfOk result (λ told. OnSome told (assertions.new ≡ assertions.old ++ all_assertions_in list.now (length assertions.old + 1) (stmts_of statements.now))) }
+{
+    let told = block_in(alloc, list, names, assertions, statements)?;
+    match told {
+        Some(inside) => Ok(Some(Statement::Block(inside))),
+        None => Ok(None),
+    }
+}
+
+/// `if` without `else`, if its parts are built [stmt.if].
+#[cycle(statement)]
+#[tactic(auto, using(crate::proofs::Statements::if_none))]
+fn if_alone_in(
+    alloc: Global,
+    list: &Assembled,
+    names: &mut Vec<Variable>,
+    assertions: &mut Items<Assertion>,
+    condition: &Expr,
+    body: &Stmt,
+) -> Result<Option<Statement>, NoMemory>
+    requires { All (IsWithin list.now.files) list.now.placed }
+    ensures stands { IfOk result (StandsFor core_of assertions.new (λ semantic. if_of (expr_in list.now names.old.items (expr_of condition.now)) (branch_in semantic list.now (length assertions.old + 1) names.old.items (stmt_of body.now)) (Some empty))) }
+    ensures visible { IfOk result (λ told. OnSome told (names.new.items ≡ names.old.items)) }
+    ensures added { IfOk result (λ told. OnSome told (assertions.new ≡ assertions.old ++ assertions_in list.now (length assertions.old + 1) (stmt_of body.now))) }
+{
+    let condition = expr_in(alloc, list, names.as_slice(), condition)?;
+    let told = branch_in(alloc, list, names, assertions, body)?;
+    match told {
+        Some(body) => if_alone(alloc, condition, body),
+        None => Ok(None),
+    }
+}
+
+/// `if` with `else`, if its parts are built [stmt.if].
+#[cycle(statement)]
+fn if_else_in(
+    alloc: Global,
+    list: &Assembled,
+    names: &mut Vec<Variable>,
+    assertions: &mut Items<Assertion>,
+    condition: &Expr,
+    body: &Stmt,
+    other: &Stmt,
+) -> Result<Option<Statement>, NoMemory>
+    requires { All (IsWithin list.now.files) list.now.placed }
+    ensures stands { IfOk result (StandsFor core_of assertions.new (λ semantic. if_of (expr_in list.now names.old.items (expr_of condition.now)) (branch_in semantic list.now (length assertions.old + 1) names.old.items (stmt_of body.now)) (branch_in semantic list.now (length assertions.old + 1 + length (assertions_in list.now (length assertions.old + 1) (stmt_of body.now))) names.old.items (stmt_of other.now)))) }
+    ensures visible { IfOk result (λ told. OnSome told (names.new.items ≡ names.old.items)) }
+    ensures added { IfOk result (λ told. OnSome told (assertions.new ≡ assertions.old ++ (assertions_in list.now (length assertions.old + 1) (stmt_of body.now) ++ assertions_in list.now (length assertions.old + 1 + length (assertions_in list.now (length assertions.old + 1) (stmt_of body.now))) (stmt_of other.now)))) }
+{
+    let condition = expr_in(alloc, list, names.as_slice(), condition)?;
+    let first = branch_in(alloc, list, names, assertions, body)?;
+    match first {
+        Some(body) => {
+            let second = branch_in(alloc, list, names, assertions, other)?;
+            match second {
+                Some(other) => if_else(alloc, condition, body, other),
+                None => Ok(None),
+            }
+        }
+        None => Ok(None),
+    }
+}
+
+/// `while`, if its parts are built [stmt.while].
+#[cycle(statement)]
+#[tactic(auto, using(crate::proofs::Statements::both_none))]
+fn while_in(
+    alloc: Global,
+    list: &Assembled,
+    names: &mut Vec<Variable>,
+    assertions: &mut Items<Assertion>,
+    condition: &Expr,
+    body: &Stmt,
+) -> Result<Option<Statement>, NoMemory>
+    requires { All (IsWithin list.now.files) list.now.placed }
+    ensures stands { IfOk result (StandsFor core_of assertions.new (λ semantic. both while_of (expr_in list.now names.old.items (expr_of condition.now)) (branch_in semantic list.now (length assertions.old + 1) names.old.items (stmt_of body.now)))) }
+    ensures visible { IfOk result (λ told. OnSome told (names.new.items ≡ names.old.items)) }
+    ensures added { IfOk result (λ told. OnSome told (assertions.new ≡ assertions.old ++ assertions_in list.now (length assertions.old + 1) (stmt_of body.now))) }
+{
+    let condition = expr_in(alloc, list, names.as_slice(), condition)?;
+    let told = branch_in(alloc, list, names, assertions, body)?;
+    match told {
+        Some(body) => while_loop(alloc, condition, body),
+        None => Ok(None),
+    }
+}
+
 /// A branch of `if` or the body of a loop, which is a scope of its own and no declaration [stmt.select.general].
 #[cycle(statement)]
+#[tactic(
+    auto,
+    using(crate::proofs::Statements::branch_behind),
+    unfolding(
+        crate::specs::Front::stmt_in,
+        crate::specs::Front::stmts_in,
+        crate::specs::Front::assertions_in,
+        crate::specs::Front::all_assertions_in
+    )
+)]
 fn branch_in(
     alloc: Global,
     list: &Assembled,
@@ -107,9 +204,9 @@ fn branch_in(
     tree: &Stmt,
 ) -> Result<Option<Statement>, NoMemory>
     requires { All (IsWithin list.now.files) list.now.placed }
-    ensures { IfOk result (λ told. MatchOption told
-        (IsNone (λ semantic. branch_in semantic list.now (length assertions.old + 1) names.old.items (stmt_of tree.now)))
-        (MadeBranch list.now names.old.items names.new.items assertions.old assertions.new (stmt_of tree.now))) }
+    ensures stands { IfOk result (StandsFor core_of assertions.new (λ semantic. branch_in semantic list.now (length assertions.old + 1) names.old.items (stmt_of tree.now))) }
+    ensures visible { IfOk result (λ told. OnSome told (names.new.items ≡ names.old.items)) }
+    ensures added { IfOk result (λ told. OnSome told (assertions.new ≡ assertions.old ++ assertions_in list.now (length assertions.old + 1) (stmt_of tree.now))) }
 {
     if is_declaration(tree) {
         Ok(None)
@@ -121,6 +218,16 @@ fn branch_in(
 
 /// The statements of a block, whose variables are visible up to its end [basic.scope.block].
 #[cycle(statement)]
+#[tactic(
+    auto,
+    using(crate::proofs::Statements::given_back),
+    unfolding(
+        crate::specs::Front::stmt_in,
+        crate::specs::Front::stmts_in,
+        crate::specs::Front::assertions_in,
+        crate::specs::Front::all_assertions_in
+    )
+)]
 pub fn block_in(
     alloc: Global,
     list: &Assembled,
@@ -129,9 +236,9 @@ pub fn block_in(
     statements: &[Stmt],
 ) -> Result<Option<Vec<Statement>>, NoMemory>
     requires { All (IsWithin list.now.files) list.now.placed }
-    ensures { IfOk result (λ told. MatchOption told
-        (IsNone (λ semantic. stmts_in semantic list.now (length assertions.old + 1) (length names.old.items) names.old.items (stmts_of statements.now)))
-        (λ made. MadeBlock list.now names.old.items names.new.items assertions.old assertions.new (stmts_of statements.now) made.items)) }
+    ensures stands { IfOk result (StandsFor (λ n made. cores_of n made.items) assertions.new (λ semantic. stmts_in semantic list.now (length assertions.old + 1) (length names.old.items) names.old.items (stmts_of statements.now))) }
+    ensures visible { IfOk result (λ told. OnSome told (names.new.items ≡ names.old.items)) }
+    ensures added { IfOk result (λ told. OnSome told (assertions.new ≡ assertions.old ++ all_assertions_in list.now (length assertions.old + 1) (stmts_of statements.now))) }
 {
     let base = names.len();
     let told = statements_in(alloc, list, base, names, assertions, statements)?;
@@ -150,14 +257,15 @@ fn statements_in(
     statements: &[Stmt],
 ) -> Result<Option<Vec<Statement>>, NoMemory>
     requires { All (IsWithin list.now.files) list.now.placed }
-    ensures { IfOk result (λ told. MatchOption told
-        (IsNone (λ semantic. stmts_in semantic list.now (length assertions.old + 1) base names.old.items (stmts_of statements.now)))
-        (λ made. MadeStatements list.now base names.old.items names.new.items assertions.old assertions.new (stmts_of statements.now) made.items)) }
+    ensures stands { IfOk result (StandsFor (λ n made. cores_of n made.items) assertions.new (λ semantic. stmts_in semantic list.now (length assertions.old + 1) base names.old.items (stmts_of statements.now))) }
+    ensures visible { IfOk result (λ told. OnSome told (names.new.items ≡ names_after names.old.items (stmts_of statements.now))) }
+    ensures added { IfOk result (λ told. OnSome told (assertions.new ≡ assertions.old ++ all_assertions_in list.now (length assertions.old + 1) (stmts_of statements.now))) }
 {
     let mut told = Vec::new(alloc);
     for statement in statements {
-        match statement_in(alloc, list, base, names, assertions, statement)? {
-            Some(statement) => told.push(statement)?,
+        let made = statement_in(alloc, list, base, names, assertions, statement)?;
+        match made {
+            Some(made) => told.push(made)?,
             None => return Ok(None),
         }
     }
