@@ -1,270 +1,153 @@
--- The statements that are built are typed.
-use Rattle.std.proofs.Common.{◌≡◌, ◌⊎◌, option_map, ℕ, ◌+◌, ◌&&◌, Bool, true, false, not, List, [], ◌∷◌, ◌++◌, length, Option, Some, None, IfSome, slice_get, refl, sym, ap, ◌∙◌, subst, inl, inr}
-use Rattle.std.specs.List.{AllByRecursion}
-use Rattle.std.proofs.lemmas.Bool.{not-true, true≢false}
-use Rattle.std.proofs.lemmas.List.{length-map, map-append}
-use Rattle.std.proofs.lemmas.Option.{IfSome_then}
+-- The statements of a tree, one after another, and the tables of their assertions.
+use Rattle.std.proofs.Common.{◌≡◌, ℕ, ◌+◌, ◌<◌, Bool, true, false, List, [], ◌∷◌, ◌++◌, Option, Some, None, zero, suc, length, get_or, map, take, drop, refl, sym, ap, ◌∙◌, arith, append_assoc, append-nil, length-append}
+use Rattle.std.specs.Prelude.{◌&&◌, fold, slice_get}
+use Rattle.std.proofs.lemmas.List.{map-append, take_at, take-append-drop, take_more}
+use Rattle.std.proofs.lemmas.List.Sums.{fold-append}
 use Rattle.cx_syntax.specs.Tree as grammar
-use Rattle.cx_syntax.specs.Tree.{Local, TypeTree, asserts, block, branch, branches, call, args, one, compound, declare, empty, equals, evaluate, leaf, local, more_stmts, no_stmts, returns, while_loop}
-use Rattle.cx_syntax.specs.declared.mark.Mark.TheVariants as M
+use Rattle.cx_syntax.specs.Tree.{Stmts, local, declare, more_stmts, no_stmts}
+use Rattle.cx_syntax.specs.declared.tree.statement.Stmt.{Stmt}
+use Rattle.cx_syntax.specs.View.{stmt_list, stmt_of, stmts_of}
 use Rattle.cx_includes.specs.declared.assembled.Assembled.{Assembled}
-use Rattle.cx_includes.specs.declared.assembled.Placed.{Placed}
-use Rattle.cx_core.specs.declared.number.IntegerType.{IntegerType}
-use Rattle.cx_core.specs.declared.number.IntegerType.TheVariants as types
 use Rattle.cx_core.specs.declared.unit.Assertion.{Assertion}
-use Rattle.cx_core.specs.Words.{Semantic, Ignore, Observe, Enforce, QuickEnforce}
-use Rattle.cx_core.specs.Linked.{assertion_of, times_under}
+use Rattle.cx_core.specs.declared.statement.Statement.{Statement}
+use Rattle.cx_core.specs.Words.{Semantic}
 use Rattle.cx_core.specs.Tree as core
-use Rattle.cx_core.specs.Tree.{Operand, Stmt, Stmts, done, next}
-use Rattle.cx_typed.specs.Typed.{Slots, Gives, IsCondition, IsListed, IsTypedDeclaration, IsTyped, AreTyped, with_slot, seen_behind}
-use Rattle.cx_front.specs.declared.names.Variable.{Variable}
+use Rattle.cx_core.specs.Tree.{Stmts as Stmts'}
+use Rattle.cx_core.specs.declared.number.IntegerType.{IntegerType}
+use Rattle.cx_core.specs.Numbered as view
+use Rattle.cx_core.specs.Numbered.{Numbers}
+use Rattle.cx_front.specs.Core.{Tells}
 use Rattle.cx_front.specs.declared.names.Slot.{Slot}
-use Rattle.cx_front.specs.Front.{Names, Typed, both, only_if, found, as_type, as_condition, expr_in, entry_at, statement_of_check, assigned, target_in, is_assign, is_putchar, argument_in, written, discarded_in, type_in, is_new, may_name, word_at, with_name, declared, initialised_in, of_type, declared_in, with_typed_name, names_behind, is_declaration, entries, assertions_in, all_assertions_in, names_after, with_last, if_of, while_of, return_of, stmt_in, stmts_in}
-use Rattle.cx_front.proofs.Options.{both_is, map_is, only_is}
-use Rattle.cx_front.proofs.Expressions.{slots_of, IsTypedAs, IsSlot, found_is, integer_is, gives_type, is_condition, expr_is}
+use Rattle.cx_front.specs.Front.{Names, Typed, all_assertions_in, assertions_in, both, declared_in, found, if_of, initialised_in, is_declaration, is_new, may_name, names_after, names_behind, of_type, only_if, stmt_in, stmts_in, type_in, with_last, with_typed_name, word_at}
+use Rattle.cx_front.specs.Made.{names_with}
 
--- ---- lists of what is listed
+-- ---- trees
 
-left : {X : Type 0} (P : X → Type 0) (xs ys : List X) → AllByRecursion P (xs ++ ys) → AllByRecursion P xs
-left P [] ys h = tt
-left P (x ∷ xs) ys h = (h.0, left P xs ys h.1)
+pub stmts_last : (front : List Stmt) (last : Stmt) → stmts_of (front ++ last ∷ []) ≡ more_stmts (stmts_of front) (stmt_of last)
+stmts_last front last = ap stmt_list (map-append stmt_of front (last ∷ [])) ∙ fold-append more_stmts no_stmts (map stmt_of front) (stmt_of last ∷ [])
 
-right : {X : Type 0} (P : X → Type 0) (xs ys : List X) → AllByRecursion P (xs ++ ys) → AllByRecursion P ys
-right P [] ys h = h
-right P (x ∷ xs) ys h = right P xs ys h.1
+pub stmts_more : (all : List Stmt) (i : ℕ) (x : Stmt) → i < length all → x ≡ get_or all i x → stmts_of (take (i + 1) all) ≡ more_stmts (stmts_of (take i all)) (stmt_of x)
+stmts_more all i x lt is =
+    let front : take (i + 1) all ≡ take i all ++ x ∷ [] = take_more all i x lt ∙ ap (λ (y : Stmt). take i all ++ y ∷ []) (sym is) in
+    ap stmts_of front ∙ stmts_last (take i all) x
 
--- ---- the last statement of a block
+made_last : (s : List core.Stmt) (x : core.Stmt) → view.stmts (s ++ x ∷ []) ≡ with_last (view.stmts s) x
+made_last [] x = refl
+made_last (y ∷ s) x = ap (core.next y) (made_last s x)
 
--- what is seen behind statements
-pub seen_after : Slots → Stmts → Slots
-seen_after slots done = slots
-seen_after slots (next s rest) = seen_after (seen_behind slots s) rest
+pub made_more : (n : Numbers) (s : List Statement) (x : Statement) → view.stmts_of n (s ++ x ∷ []) ≡ with_last (view.stmts_of n s) (view.stmt_of n x)
+made_more n s x = ap view.stmts (map-append (view.stmt_of n) s (x ∷ [])) ∙ made_last (map (view.stmt_of n) s) (view.stmt_of n x)
 
-seen_last : (slots : Slots) (b : Stmts) (s : Stmt) → seen_after slots (with_last b s) ≡ seen_behind (seen_after slots b) s
-unfolding seen_after
-seen_last slots done s = refl
-seen_last slots (next a rest) s = seen_last (seen_behind slots a) rest s
+-- ---- options
 
-last_is_typed : (table : List Assertion) (slots : Slots) (b : Stmts) (s : Stmt) → AreTyped table slots b → IsTyped table (seen_after slots b) s → AreTyped table slots (with_last b s)
-unfolding seen_after IsTyped
-last_is_typed table slots done s h k = (k, tt)
-last_is_typed table slots (next a rest) s h k = (h.0, last_is_typed table (seen_behind slots a) rest s h.1 k)
+pub both_none : {A B C : Type 0} (f : A → B → C) (a : Option A) → both f a None ≡ None
+both_none f None = refl
+both_none f (Some a) = refl
 
--- ---- declarations
+pub if_none : (c : Option Typed) (b : Option core.Stmt) → if_of c None b ≡ None
+if_none None b = refl
+if_none (Some c) None = refl
+if_none (Some c) (Some b) = refl
 
--- the slots behind a declaration
-slots_with : (names : Names) (name : ℕ) (type : IntegerType) → slots_of (with_name names name type) ≡ slots_of names ++ type ∷ []
-slots_with names name type = map-append (λ (v : Variable). v.of) names (record { name = name; of = type } ∷ [])
+pub if_none_else : (c : Option Typed) (a : Option core.Stmt) → if_of c a None ≡ None
+if_none_else None a = refl
+if_none_else (Some c) None = refl
+if_none_else (Some c) (Some a) = refl
 
-abbrev pub is_variable : Stmt → Bool
-is_variable (core.variable_declaration slot type init) = true
-is_variable other = false
+-- ---- tables
 
--- what is known of a statement without assertions of its own
-record IsPlain (slots : Slots) (behind : Slots) (declaration : Bool) (s : Stmt) : Type 0 where
-  typed : (table : List Assertion) → IsTyped table slots s
-  seen : seen_behind slots s ≡ behind
-  scope : is_variable s ≡ declaration
+-- what is told of a table is told of each front of it
+front_get : (a b : List Assertion) (i : ℕ) (e : Assertion) → slice_get a i ≡ Some e → slice_get (a ++ b) i ≡ Some e
+front_get [] b i e is = absurd (cc)
+front_get (x ∷ a) b zero e is = is
+front_get (x ∷ a) b (suc i) e is = front_get a b i e is
 
-declared_is : (names : Names) (name : ℕ) (type : IntegerType) (e : Typed) → IsTypedAs (slots_of (with_name names name type)) e
-    → IsPlain (slots_of names) (slots_of (with_name names name type)) true (declared names type e)
-unfolding IsTyped
-declared_is names name type e h =
-    let gives = subst (λ (slots : Slots). Gives slots (as_type type e) type) (slots_with names name type) (gives_type (slots_of (with_name names name type)) type e h) in
-    record {
-      typed = λ table. subst (λ (o : Option IntegerType). IsTypedDeclaration (slots_of names) (length names) o (as_type type e)) (sym (integer_is type)) (sym (length-map names (λ (v : Variable). v.of)), gives);
-      seen = ap (with_slot (slots_of names)) (integer_is type) ∙ sym (slots_with names name type);
-      scope = refl;
-    }
+pub tells_front : (n : Numbers) (semantic : Semantic) (a b : List Assertion) → Tells n semantic (a ++ b) → Tells n semantic a
+tells_front n semantic a b tells = λ i e predicate is. tells i e predicate (front_get a b i e is)
 
-initialised_is : (list : Assembled) (names : Names) (name : ℕ) (init : grammar.Init) (type : IntegerType)
-    → IfSome (initialised_in list names name init type) (IsPlain (slots_of names) (slots_of (with_name names name type)) true)
-initialised_is list names name (equals i e) type =
-    map_is (IsPlain (slots_of names) (slots_of (with_name names name type)) true) (IsTypedAs (slots_of (with_name names name type))) (declared names type) (expr_in list (with_name names name type) e) (expr_is list (with_name names name type) e)
-    (declared_is names name type)
-initialised_is list names name other type = tt
+-- ---- what is visible
 
-of_type_is : (list : Assembled) (names : Names) (name : ℕ) (init : grammar.Init) (type : Option IntegerType)
-    → IfSome (of_type (initialised_in list names name init) type) (IsPlain (slots_of names) (slots_of (with_typed_name names name type)) true)
-of_type_is list names name init None = tt
-of_type_is list names name init (Some type) = initialised_is list names name init type
+-- what is visible behind a part began with what was visible before it
+Longer : Names → Names → Type 0
+Longer names behind = (more : Names) × (behind ≡ names ++ more)
 
-declared_in_is : (list : Assembled) (base : ℕ) (names : Names) (l : Local) (semicolon : ℕ) → IfSome (declared_in list base names l) (IsPlain (slots_of names) (slots_of (names_behind names (declare l semicolon))) true)
-declared_in_is list base names (local type name i init) semicolon =
-    only_is (IsPlain (slots_of names) (slots_of (with_typed_name names name (type_in type))) true) (is_new base (found name names) && may_name (word_at list i)) (of_type (initialised_in list names name init) (type_in type))
-    (λ _. of_type_is list names name init (type_in type))
+longer_named : (names : Names) (name : ℕ) (type : Option IntegerType) → Longer names (with_typed_name names name type)
+unfolding Longer
+longer_named names name None = ([], sym (append-nil names))
+longer_named names name (Some type) = (record { name = name; of = type } ∷ [], refl)
 
--- ---- discarded values
+longer_behind : (names : Names) (tree : grammar.Stmt) → Longer names (names_behind names tree)
+unfolding Longer
+longer_behind names (declare (local type name i init) j) = longer_named names name (type_in type)
+longer_behind names _ = ([], sym (append-nil names))
 
-target_is : (names : Names) (t : grammar.Expr) → IfSome (target_in names t) (IsSlot names)
-target_is names (leaf i (M.Name n)) = found_is names n
-target_is names other = tt
+longer_after : (names : Names) (tree : grammar.Stmts) → Longer names (names_after names tree)
+unfolding Longer
+longer_after names no_stmts = ([], sym (append-nil names))
+longer_after names (more_stmts b s) =
+    let front : Longer names (names_after names b) = longer_after names b in
+    let last : Longer (names_after names b) (names_behind (names_after names b) s) = longer_behind (names_after names b) s in
+    (front.0 ++ last.0, last.1 ∙ ap (λ (l : Names). l ++ last.0) front.1 ∙ append_assoc names front.0 last.0)
 
-argument_is : (list : Assembled) (names : Names) (a : grammar.Args) → IfSome (argument_in list names a) (IsTypedAs (slots_of names))
-argument_is list names (args i (one e) j) = expr_is list names e
-argument_is list names other = tt
+-- so the end of a block gives that back
+pub given_back : (names : Names) (tree : grammar.Stmts) → take (length names) (names_after names tree) ≡ names
+unfolding Longer
+given_back names tree =
+    let longer : Longer names (names_after names tree) = longer_after names tree in
+    ap (take (length names)) longer.1 ∙ take_at names longer.0 (length names) refl
 
-assigned_is : (names : Names) (s : Slot) (e : Typed) → IsSlot names s → IsTypedAs (slots_of names) e → IsPlain (slots_of names) (slots_of names) false (assigned s e)
-unfolding IsTyped
-assigned_is names s e h k = record { typed = λ table. (s.of, h, gives_type (slots_of names) s.of e k); seen = refl; scope = refl }
+-- what is no declaration leaves nothing visible
+pub branch_behind : (names : Names) (tree : grammar.Stmt) → is_declaration tree ≡ false → names_behind names tree ≡ names
+branch_behind names (declare l i) not_one = absurd (cc)
+branch_behind names _ not_one = refl
 
-written_is : (slots : Slots) (e : Typed) → IsTypedAs slots e → IsPlain slots slots false (written e)
-unfolding IsTyped
-written_is slots e h = record { typed = λ table. gives_type slots types.Int e h; seen = refl; scope = refl }
+pub declaration_behind : (names : Names) (l : grammar.Local) (i : ℕ) → names_behind names (declare l i) ≡ names_with names l
+declaration_behind names (local type name i init) j = refl
 
-discarded_is : (list : Assembled) (names : Names) (t : grammar.Expr) → IfSome (discarded_in list names t) (IsPlain (slots_of names) (slots_of names) false)
-discarded_is list names (grammar.assign i l p j r) =
-    only_is (IsPlain (slots_of names) (slots_of names) false) (is_assign p) (both assigned (target_in names l) (expr_in list names r))
-    (λ _. both_is (IsPlain (slots_of names) (slots_of names) false) (IsSlot names) (IsTypedAs (slots_of names)) assigned (target_in names l) (expr_in list names r) (target_is names l) (expr_is list names r) (assigned_is names))
-discarded_is list names (call i f a) =
-    only_is (IsPlain (slots_of names) (slots_of names) false) (is_putchar list f) (option_map written (argument_in list names a))
-    (λ _. map_is (IsPlain (slots_of names) (slots_of names) false) (IsTypedAs (slots_of names)) written (argument_in list names a) (argument_is list names a) (written_is (slots_of names)))
-discarded_is list names other = tt
+-- ---- one more statement
 
--- ---- statements
+module _ (list : Assembled) where
+  pub table_more : (table front more : List Assertion) (b : Stmts) (s : grammar.Stmt) → front ≡ table ++ all_assertions_in list (length table + 1) b → more ≡ front ++ assertions_in list (length front + 1) s
+      → more ≡ table ++ all_assertions_in list (length table + 1) (more_stmts b s)
+  unfolding all_assertions_in assertions_in
+  table_more table front more b s at_front at_more =
+      let count : length front + 1 ≡ length table + 1 + length (all_assertions_in list (length table + 1) b) = omega (arith, ap length at_front, length-append table (all_assertions_in list (length table + 1) b)) in
+      at_more
+      ∙ ap (λ (k : ℕ). front ++ assertions_in list k s) count
+      ∙ ap (λ (l : List Assertion). l ++ assertions_in list (length table + 1 + length (all_assertions_in list (length table + 1) b)) s) at_front
+      ∙ append_assoc table (all_assertions_in list (length table + 1) b) (assertions_in list (length table + 1 + length (all_assertions_in list (length table + 1) b)) s)
 
-once_or_never : (semantic : Semantic) → (times_under semantic 0 ≡ 0) ⊎ (times_under semantic 0 ≡ 1)
-once_or_never Ignore = inl refl
-once_or_never Observe = inr refl
-once_or_never Enforce = inr refl
-once_or_never QuickEnforce = inr refl
+  -- the statements with one more stand for their tree with one more
+  pub stands_more : (n : Numbers) (semantic : Semantic) (base : ℕ) (names visible : Names) (table front : List Assertion) (b : Stmts) (s : grammar.Stmt) (made : Option Stmts') (told : Option core.Stmt)
+      → front ≡ table ++ all_assertions_in list (length table + 1) b → visible ≡ names_after names b
+      → stmts_in semantic list (length table + 1) base names b ≡ made → stmt_in semantic list (length front + 1) base visible s ≡ told
+      → stmts_in semantic list (length table + 1) base names (more_stmts b s) ≡ both with_last made told
+  unfolding stmts_in
+  stands_more n semantic base names visible table front b s made told at_front seen of_front of_last =
+      let count : length front + 1 ≡ length table + 1 + length (all_assertions_in list (length table + 1) b) = omega (arith, ap length at_front, length-append table (all_assertions_in list (length table + 1) b)) in
+      let last : stmt_in semantic list (length table + 1 + length (all_assertions_in list (length table + 1) b)) base (names_after names b) s ≡ told =
+          ap (λ (k : ℕ). stmt_in semantic list k base (names_after names b) s) (sym count) ∙ ap (λ (v : Names). stmt_in semantic list (length front + 1) base v s) (sym seen) ∙ of_last in
+      ap (λ (a : Option Stmts'). both with_last a (stmt_in semantic list (length table + 1 + length (all_assertions_in list (length table + 1) b)) base (names_after names b) s)) of_front
+      ∙ ap (both with_last made) last
 
-listed_check : (list : Assembled) (table : List Assertion) (names : Names) (semantic : Semantic) (ordinal : ℕ) (t : grammar.Expr) (word : Placed) (e : Typed) → IsListed table (assertion_of (entry_at list ordinal word t)) → IsTypedAs (slots_of names) e
-    → IsTyped table (slots_of names) (statement_of_check semantic list ordinal t word e)
-unfolding IsTyped
-listed_check list table names semantic ordinal t word e listed h = (once_or_never semantic, listed, is_condition (slots_of names) e h)
+  -- what isn't built spoils all
+  none_behind : (semantic : Semantic) (ordinal base : ℕ) (names : Names) (s : Stmts) (more : List grammar.Stmt) → stmts_in semantic list ordinal base names s ≡ None → stmts_in semantic list ordinal base names (fold more_stmts s more) ≡ None
+  unfolding stmts_in
+  none_behind semantic ordinal base names s [] none = none
+  none_behind semantic ordinal base names s (t ∷ more) none = none_behind semantic ordinal base names (more_stmts s t) more (rw none refl)
 
-module _ (table : List Assertion) (slots : Slots) where
-  loop_is : (c : Operand) (body : Stmt) → is_variable body ≡ false → IsCondition slots c → IsTyped table slots body → IsTyped table slots (core.while_loop c body)
-  unfolding IsTyped
-  loop_is c (core.variable_declaration slot type init) none h k = absurd (true≢false none)
-  loop_is c other none h k = (h, refl, k)
+  pub spoilt : (semantic : Semantic) (ordinal base : ℕ) (names : Names) (front more : List Stmt) → stmts_in semantic list ordinal base names (stmts_of front) ≡ None → stmts_in semantic list ordinal base names (stmts_of (front ++ more)) ≡ None
+  spoilt semantic ordinal base names front more none =
+      let same : stmts_of (front ++ more) ≡ fold more_stmts (stmts_of front) (map stmt_of more) = ap stmt_list (map-append stmt_of front more) ∙ fold-append more_stmts no_stmts (map stmt_of front) (map stmt_of more) in
+      ap (stmts_in semantic list ordinal base names) same ∙ none_behind semantic ordinal base names (stmts_of front) (map stmt_of more) none
 
-  choice_is : (c : Operand) (a b : Stmt) → is_variable a ≡ false → is_variable b ≡ false → IsCondition slots c → IsTyped table slots a → IsTyped table slots b → IsTyped table slots (core.if_else c a b)
-  unfolding IsTyped
-  choice_is c a b no_a no_b h f g = (h, (loop_is c a no_a h f).1, f, (loop_is c b no_b h g).1, g)
+-- ---- a declaration
 
--- the assertions are those of the table
-abbrev pub AreListed : List Assertion → List Assertion → Type 0
-AreListed table es = AllByRecursion (λ (e : Assertion). IsListed table (assertion_of e)) es
-
-module _ (semantic : Semantic) (list : Assembled) (table : List Assertion) where
-  -- what is known of the statement that a tree is, where the first assertion has the ordinal
-  pub record IsStatement (names : Names) (ordinal : ℕ) (t : grammar.Stmt) (s : Stmt) : Type 0 where
-    pub typed : AreListed table (assertions_in list ordinal t) → IsTyped table (slots_of names) s
-    pub seen : seen_behind (slots_of names) s ≡ slots_of (names_behind names t)
-    pub scope : is_variable s ≡ is_declaration t
-
-  pub record AreStatements (names : Names) (ordinal : ℕ) (b : grammar.Stmts) (ss : Stmts) : Type 0 where
-    pub typed : AreListed table (all_assertions_in list ordinal b) → AreTyped table (slots_of names) ss
-    pub seen : seen_after (slots_of names) ss ≡ slots_of (names_after names b)
-
-  plain_is : (names : Names) (ordinal : ℕ) (t : grammar.Stmt) (o : Option Stmt) → IfSome o (IsPlain (slots_of names) (slots_of (names_behind names t)) (is_declaration t)) → IfSome o (IsStatement names ordinal t)
-  plain_is names ordinal t o h = IfSome_then o h (λ s h. record { typed = λ _. h.typed table; seen = h.seen; scope = h.scope })
-
-  -- what isn't a declaration may be a branch
-  branch_is : (names : Names) (ordinal : ℕ) (t : grammar.Stmt) (o : Option Stmt) → IfSome o (IsStatement names ordinal t) → IfSome (only_if (not (is_declaration t)) o) (λ s. IsStatement names ordinal t s × (is_variable s ≡ false))
-  branch_is names ordinal t o h =
-      only_is (λ s. IsStatement names ordinal t s × (is_variable s ≡ false)) (not (is_declaration t)) o (λ e. IfSome_then o h (λ s h. (h, h.scope ∙ not-true (is_declaration t) e)))
-
-  block_is : (names : Names) (ordinal : ℕ) (i : ℕ) (b : grammar.Stmts) (j : ℕ) (ss : Stmts) → AreStatements names ordinal b ss → IsStatement names ordinal (compound (block i b j)) (core.block ss)
-  unfolding IsTyped assertions_in
-  block_is names ordinal i b j ss h = record { typed = h.typed; seen = refl; scope = refl }
-
-  if_is : (names : Names) (ordinal : ℕ) (i j : ℕ) (c : grammar.Expr) (k : ℕ) (a : grammar.Stmt) (condition : Option Typed) (o : Option Stmt) → IfSome condition (IsTypedAs (slots_of names))
-      → IfSome o (λ s. IsStatement names ordinal a s × (is_variable s ≡ false)) → IfSome (if_of condition o (Some core.empty)) (IsStatement names ordinal (branch i j c k a))
-  unfolding IsTyped assertions_in
-  if_is names ordinal i j c k a None o h f = tt
-  if_is names ordinal i j c k a (Some condition) None h f = tt
-  if_is names ordinal i j c k a (Some condition) (Some s) h f = record {
-    typed = λ listed. choice_is table (slots_of names) (as_condition condition) s core.empty f.1 refl (is_condition (slots_of names) condition h) (f.0.typed listed) tt;
-    seen = refl;
-    scope = refl;
-  }
-
-  if_else_is : (names : Names) (ordinal : ℕ) (i j : ℕ) (c : grammar.Expr) (k : ℕ) (a : grammar.Stmt) (l : ℕ) (b : grammar.Stmt) (condition : Option Typed) (o p : Option Stmt) → IfSome condition (IsTypedAs (slots_of names))
-      → IfSome o (λ s. IsStatement names ordinal a s × (is_variable s ≡ false)) → IfSome p (λ s. IsStatement names (ordinal + length (assertions_in list ordinal a)) b s × (is_variable s ≡ false))
-      → IfSome (if_of condition o p) (IsStatement names ordinal (branches i j c k a l b))
-  unfolding IsTyped assertions_in
-  if_else_is names ordinal i j c k a l b None o p h f g = tt
-  if_else_is names ordinal i j c k a l b (Some condition) None p h f g = tt
-  if_else_is names ordinal i j c k a l b (Some condition) (Some s) None h f g = tt
-  if_else_is names ordinal i j c k a l b (Some condition) (Some s) (Some t) h f g = record {
-    typed = λ listed.
-        let first = assertions_in list ordinal a in
-        let second = assertions_in list (ordinal + length (assertions_in list ordinal a)) b in
-        choice_is table (slots_of names) (as_condition condition) s t f.1 g.1 (is_condition (slots_of names) condition h)
-        (f.0.typed (left (λ (e : Assertion). IsListed table (assertion_of e)) first second listed)) (g.0.typed (right (λ (e : Assertion). IsListed table (assertion_of e)) first second listed));
-    seen = refl;
-    scope = refl;
-  }
-
-  while_is : (names : Names) (ordinal : ℕ) (i j : ℕ) (c : grammar.Expr) (k : ℕ) (body : grammar.Stmt) (condition : Typed) (s : Stmt) → IsTypedAs (slots_of names) condition → IsStatement names ordinal body s × (is_variable s ≡ false)
-      → IsStatement names ordinal (while_loop i j c k body) (while_of condition s)
-  unfolding assertions_in
-  while_is names ordinal i j c k body condition s h f = record {
-    typed = λ listed. loop_is table (slots_of names) (as_condition condition) s f.1 (is_condition (slots_of names) condition h) (f.0.typed listed);
-    seen = refl;
-    scope = refl;
-  }
-
-  return_is : (names : Names) (ordinal : ℕ) (i : ℕ) (t : grammar.Expr) (j : ℕ) (e : Typed) → IsTypedAs (slots_of names) e → IsStatement names ordinal (returns i (Some t) j) (return_of e)
-  unfolding IsTyped
-  return_is names ordinal i t j e h = record { typed = λ _. gives_type (slots_of names) types.Int e h; seen = refl; scope = refl }
-
-  assert_is : (names : Names) (ordinal : ℕ) (i j : ℕ) (t : grammar.Expr) (k l : ℕ) (word : Option Placed) (e : Option Typed) → slice_get list.placed i ≡ word → IfSome e (IsTypedAs (slots_of names))
-      → IfSome (both (statement_of_check semantic list ordinal t) word e) (IsStatement names ordinal (asserts i j t k l))
-  unfolding assertions_in
-  assert_is names ordinal i j t k l None e is h = tt
-  assert_is names ordinal i j t k l (Some word) None is h = tt
-  assert_is names ordinal i j t k l (Some word) (Some e) is h = record {
-    typed = λ listed.
-        let its : AreListed table (entries list ordinal t (Some word)) = subst (λ (o : Option Placed). AreListed table (entries list ordinal t o)) is listed in
-        listed_check list table names semantic ordinal t word e its.0 h;
-    seen = refl;
-    scope = refl;
-  }
-
-  more_is : (names : Names) (ordinal : ℕ) (b : grammar.Stmts) (t : grammar.Stmt) (ss : Stmts) (s : Stmt) → AreStatements names ordinal b ss → IsStatement (names_after names b) (ordinal + length (all_assertions_in list ordinal b)) t s
-      → AreStatements names ordinal (more_stmts b t) (with_last ss s)
-  unfolding assertions_in
-  more_is names ordinal b t ss s h k =
-      let first = all_assertions_in list ordinal b in
-      let second = assertions_in list (ordinal + length (all_assertions_in list ordinal b)) t in
-      let P = λ (e : Assertion). IsListed table (assertion_of e) in
-      record {
-        typed = λ listed. last_is_typed table (slots_of names) ss s (h.typed (left P first second listed)) (subst (λ (slots : Slots). IsTyped table slots s) (sym h.seen) (k.typed (right P first second listed)));
-        seen = seen_last (slots_of names) ss s ∙ ap (λ (slots : Slots). seen_behind slots s) h.seen ∙ k.seen;
-      }
-
-  mutual
-    unfolding stmt_in IsTyped seen_after
-
-    pub stmt_is : (ordinal base : ℕ) (names : Names) (t : grammar.Stmt) → IfSome (stmt_in semantic list ordinal base names t) (IsStatement names ordinal t)
-    stmt_is ordinal base names (empty i) = record { typed = λ _. tt; seen = refl; scope = refl }
-    stmt_is ordinal base names (compound (block i b j)) =
-        map_is (IsStatement names ordinal (compound (block i b j))) (AreStatements names ordinal b) core.block (stmts_in semantic list ordinal (length names) names b) (stmts_are ordinal (length names) names b) (block_is names ordinal i b j)
-    stmt_is ordinal base names (evaluate e i) = plain_is names ordinal (evaluate e i) (discarded_in list names e) (discarded_is list names e)
-    stmt_is ordinal base names (declare l i) = plain_is names ordinal (declare l i) (declared_in list base names l) (declared_in_is list base names l i)
-    stmt_is ordinal base names (branch i j c k a) =
-        if_is names ordinal i j c k a (expr_in list names c) (only_if (not (is_declaration a)) (stmt_in semantic list ordinal (length names) names a)) (expr_is list names c)
-        (branch_is names ordinal a (stmt_in semantic list ordinal (length names) names a) (stmt_is ordinal (length names) names a))
-    stmt_is ordinal base names (branches i j c k a l b) =
-        let later = ordinal + length (assertions_in list ordinal a) in
-        if_else_is names ordinal i j c k a l b (expr_in list names c) (only_if (not (is_declaration a)) (stmt_in semantic list ordinal (length names) names a)) (only_if (not (is_declaration b)) (stmt_in semantic list later (length names) names b)) (expr_is list names c)
-        (branch_is names ordinal a (stmt_in semantic list ordinal (length names) names a) (stmt_is ordinal (length names) names a))
-        (branch_is names later b (stmt_in semantic list later (length names) names b) (stmt_is later (length names) names b))
-    stmt_is ordinal base names (while_loop i j c k body) =
-        both_is (IsStatement names ordinal (while_loop i j c k body)) (IsTypedAs (slots_of names)) (λ s. IsStatement names ordinal body s × (is_variable s ≡ false)) while_of
-        (expr_in list names c) (only_if (not (is_declaration body)) (stmt_in semantic list ordinal (length names) names body)) (expr_is list names c)
-        (branch_is names ordinal body (stmt_in semantic list ordinal (length names) names body) (stmt_is ordinal (length names) names body)) (while_is names ordinal i j c k body)
-    stmt_is ordinal base names (returns i (Some e) j) = map_is (IsStatement names ordinal (returns i (Some e) j)) (IsTypedAs (slots_of names)) return_of (expr_in list names e) (expr_is list names e) (return_is names ordinal i e j)
-    stmt_is ordinal base names (asserts i j e k l) = assert_is names ordinal i j e k l (slice_get list.placed i) (expr_in list names e) refl (expr_is list names e)
-    stmt_is ordinal base names other = tt
-
-    pub stmts_are : (ordinal base : ℕ) (names : Names) (b : grammar.Stmts) → IfSome (stmts_in semantic list ordinal base names b) (AreStatements names ordinal b)
-    stmts_are ordinal base names no_stmts = record { typed = λ _. tt; seen = refl }
-    stmts_are ordinal base names (more_stmts b s) =
-        both_is (AreStatements names ordinal (more_stmts b s)) (AreStatements names ordinal b) (IsStatement (names_after names b) (ordinal + length (all_assertions_in list ordinal b)) s) with_last
-        (stmts_in semantic list ordinal base names b) (stmt_in semantic list (ordinal + length (all_assertions_in list ordinal b)) base (names_after names b) s)
-        (stmts_are ordinal base names b) (stmt_is (ordinal + length (all_assertions_in list ordinal b)) base (names_after names b) s) (more_is names ordinal b s)
+-- a new name of a type that is built
+pub declared_stands : (list : Assembled) (base : ℕ) (names : Names) (type : grammar.TypeTree) (name i : ℕ) (init : grammar.Init) (before : Option Slot) (of : IntegerType)
+    → found name names ≡ before → (is_new base before && may_name (word_at list i)) ≡ true → type_in type ≡ Some of
+    → declared_in list base names (local type name i init) ≡ initialised_in list names name init of
+declared_stands list base names type name i init before of is new built =
+    ap (λ (o : Option Slot). only_if (is_new base o && may_name (word_at list i)) (of_type (initialised_in list names name init) (type_in type))) is
+    ∙ ap (λ (b : Bool). only_if b (of_type (initialised_in list names name init) (type_in type))) new
+    ∙ ap (of_type (initialised_in list names name init)) built

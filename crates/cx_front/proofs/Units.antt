@@ -1,101 +1,151 @@
--- The unit of a tree is one that is lowered.
-use Rattle.std.proofs.Common.{◌≡◌, ℕ, suc, ◌≤◌, ◌&&◌, true, List, [], ◌∷◌, length, Option, Some, None, IfSome, get_or, All, codes, bytes_eq, refl, sym, ap, ◌∙◌, subst, arith}
-use Rattle.std.proofs.lemmas.Bool.{and_parts}
+-- The unit of the only tree of a list.
+use Rattle.std.proofs.Common.{◌≡◌, ℕ, ◌+◌, true, false, List, [], ◌∷◌, ◌++◌, Option, Some, None, length, refl, sym, ap, ◌∙◌, subst}
+use Rattle.std.specs.Prelude.{Result, Ok, Err, IfOk, MatchOption, OnSome}
+use Rattle.std.specs.List.{All}
 use Rattle.std.proofs.lemmas.List.{length-map}
-use Rattle.std.proofs.lemmas.List.Elements.{recursion_from_All}
-use Rattle.std.proofs.lemmas.Option.{MatchOption-at_some, none-some, slice_get-get_or}
-use Rattle.cx_syntax.specs.declared.mark.Punct.TheVariants as P
-use Rattle.cx_syntax.specs.Tree as grammar
-use Rattle.cx_syntax.specs.Tree.{Item, Params, Suffix, UnitTree, block, defined, function, more_items, more_specs, no_items, no_params, no_specs, params, suffix}
-use Rattle.cx_syntax.specs.Spell.{Marks, Spots, numbered, sign, name, spell, spell_item, spell_params, spell_stmts, spell_suffix}
-use Rattle.cx_marks.proofs.Steps.{marks_length}
+use Rattle.std.proofs.lemmas.List.Elements.{All-nil, All-cons}
+use Rattle.cx_syntax.specs.Tree.{Stmts, UnitTree}
+use Rattle.cx_syntax.specs.Spell.{Marks}
+use Rattle.cx_syntax.specs.Place.{IsPlace, IsTree}
 use Rattle.cx_includes.specs.declared.assembled.Assembled.{Assembled}
+use Rattle.cx_marks.proofs.Steps.{marks_length}
 use Rattle.cx_faults.specs.Faults.{marks_of, tokens_of, token_at}
-use Rattle.cx_core.specs.declared.unit.CoreUnit.{CoreUnit}
 use Rattle.cx_core.specs.declared.unit.Assertion.{Assertion}
-use Rattle.cx_core.specs.Words.{Semantic, Enforce}
-use Rattle.cx_core.specs.Linked.{assertion_of}
-use Rattle.cx_typed.specs.Typed.{IsListed, AreTyped}
-use Rattle.cx_typed.specs.Unit.{body_of}
-use Rattle.cx_typed.specs.Built.{IsBuilt}
-use Rattle.cx_front.specs.Front.{word_at, type_in, all_assertions_in, stmts_in, is_int, is_empty, is_bare, main_in, statements_in, has_short_tokens, body_in, table_in, IsUnitOf, most_tokens}
-use Rattle.cx_front.specs.Laws.{UnitsAreBuilt}
-use Rattle.cx_front.proofs.Options.{only_is, only_some}
-use Rattle.cx_front.proofs.Statements.{AreListed, AreStatements, stmts_are}
-use Rattle.cx_front.proofs.Sizes.{AreSizedStatements, type_grows, stmts_sized}
-use Rattle.cx_front.proofs.Tables.{HasShortName, name_is_short, words_are_short, all_files_are_short, all_are_numbered}
+use Rattle.cx_core.specs.declared.unit.CoreUnit.{CoreUnit}
+use Rattle.cx_core.specs.declared.unit.Function.{Function}
+use Rattle.cx_core.specs.declared.statement.Statement.{Statement}
+use Rattle.cx_core.specs.Words.{Semantic, Ignore}
 
--- ---- how many tokens the statements have
+use Rattle.cx_core.specs.Numbered as view
+use Rattle.cx_core.specs.Numbered.{Numbers}
+use Rattle.cx_typed.specs.Unit.{unit_numbers}
+use Rattle.cx_front.specs.Core.{Tells}
+use Rattle.cx_front.specs.Front.{Names, DeclaresMain, all_assertions_in, body_in, bytes_of, has_short_tokens, name_of_file, statements_in, stmts_in, table_in, IsUnitOf}
+use Rattle.cx_front.specs.Made.{IsMain, IsUnitWith, MadeOf, MadeUnit, Told}
+use Rattle.cx_front.proofs.Tables.{some_numbers, some_tell, tells_unit}
 
--- the statements have no more tokens than the list, whatever follows them
-abbrev HasFew : ℕ → grammar.Stmts → Type 0
-HasFew most b = (w : Spots) × (length (spell_stmts b w) ≤ most)
+-- ---- the unit of `main`
 
-params_grow : (p : Params) (w : Spots) → is_empty p ≡ true → length w ≤ length (spell_params p w)
-params_grow (no_params i j) w h = omega arith
-params_grow other w h = absurd (cc)
+pub unit_of_main : (list : Assembled) (statements : List Statement) (main : Function) (unit : CoreUnit) → IsMain statements main → DeclaresMain list main → unit.functions ≡ main ∷ []
+    → unit.classes ≡ [] → unit.globals ≡ [] → unit.calls ≡ [] → unit.name ≡ name_of_file list 0 → unit.tokens ≡ length list.placed → unit.bytes ≡ bytes_of list → IsUnitWith list statements unit
+unit_of_main list statements main unit is declares alone no_classes no_globals no_calls name tokens bytes = record {
+  alone = record {
+    no_classes = no_classes;
+    no_globals = no_globals;
+    main = main;
+    alone = alone;
+    is_named = is.is_named;
+    may_throw = is.may_throw;
+    gives_status = is.gives_status;
+    no_preconditions = is.no_preconditions;
+    no_postconditions = is.no_postconditions;
+    is_defined = is.is_defined;
+  };
+  declares = subst (λ (l : List Function). All (DeclaresMain list) l) (sym alone) (All-cons (DeclaresMain list) main [] declares (All-nil (DeclaresMain list)));
+  name = name;
+  no_calls = no_calls;
+  tokens = tokens;
+  bytes = bytes;
+}
 
-suffix_grows : (s : Suffix) (w : Spots) → is_bare s ≡ true → length w ≤ length (spell_suffix s w)
-suffix_grows (suffix None no_specs) w h = omega arith
-suffix_grows (suffix None (more_specs s t)) w h = absurd (cc)
-suffix_grows (suffix (Some x) s) w h = absurd (cc)
+-- ---- statements in a body
 
-main_has_few : (list : Assembled) (item : Item) → IfSome (main_in list item) (HasFew (length (spell_item item [])))
-main_has_few list (function None t n i p s (defined (block j b k))) =
-    let named = bytes_eq (word_at list i) (codes "main") in
-    only_is (HasFew (length (spell_item (function None t n i p s (defined (block j b k))) []))) (is_int (type_in t) && is_empty p && is_bare s && named) (Some b) (λ h.
-    let head = and_parts (is_int (type_in t) && is_empty p && is_bare s) named h in
-    let bare = and_parts (is_int (type_in t) && is_empty p) (is_bare s) head.0 in
-    let int = and_parts (is_int (type_in t)) (is_empty p) bare.0 in
-    let body = sign P.OpenBrace j (spell_stmts b (sign P.CloseBrace k [])) in
-    let rest = spell_params p (spell_suffix s body) in
-    (sign P.CloseBrace k [], omega (arith, type_grows t (name n i rest), params_grow p (spell_suffix s body) int.1, suffix_grows s body bare.1)))
-main_has_few list other = tt
+pub given_some : {A : Type 0} {P : Type 0} (o : Option A) (x : A) → o ≡ Some x → OnSome o P → P
+given_some None x is p = absurd (cc)
+given_some (Some y) x is p = p
 
-statements_are_few : (list : Assembled) (tree : UnitTree) → IfSome (statements_in list tree) (HasFew (length (spell tree)))
-statements_are_few list (more_items no_items item) = main_has_few list item
-statements_are_few list other = tt
+pub made_of : (list : Assembled) (tree : Stmts) (unit : CoreUnit) (statements : List Statement) (table more : List Assertion) (names : Names) → table ≡ [] → names ≡ [] → unit.assertions ≡ more
+    → ((n : Numbers) (semantic : Semantic) → Told n semantic more → Some (view.stmts_of n statements) ≡ stmts_in semantic list (length table + 1) (length names) names tree)
+    → more ≡ table ++ all_assertions_in list (length table + 1) tree → IsUnitWith list statements unit → MadeOf list tree unit
+made_of list tree unit statements table more names no_table no_names kept stands added is = record {
+  statements = statements;
+  is = is;
+  body = λ semantic.
+      ap (λ (v : Names). stmts_in semantic list 1 (length v) v tree) (sym no_names)
+      ∙ ap (λ (t : List Assertion). stmts_in semantic list (length t + 1) (length names) names tree) (sym no_table)
+      ∙ sym (stands (unit_numbers semantic unit) semantic (record { tells = subst (λ (t : List Assertion). Tells (unit_numbers semantic unit) semantic t) kept (tells_unit semantic unit) }));
+  assertions = kept ∙ added ∙ ap (λ (t : List Assertion). t ++ all_assertions_in list (length t + 1) tree) no_table;
+}
 
-length_numbered : (n : ℕ) (marks : Marks) → length (numbered n marks) ≡ length marks
-length_numbered n [] = refl
-length_numbered n (m ∷ w) = ap suc (length_numbered (suc n) w)
+pub none_of : (list : Assembled) (tree : Stmts) (more table : List Assertion) (names : Names) → table ≡ [] → names ≡ []
+    → ((n : Numbers) (semantic : Semantic) → Told n semantic more → None ≡ stmts_in semantic list (length table + 1) (length names) names tree)
+    → (semantic : Semantic) → stmts_in semantic list 1 0 [] tree ≡ None
+none_of list tree more table names no_table no_names stands semantic =
+    ap (λ (v : Names). stmts_in semantic list 1 (length v) v tree) (sym no_names)
+    ∙ ap (λ (t : List Assertion). stmts_in semantic list (length t + 1) (length names) names tree) (sym no_table)
+    ∙ sym (stands (some_numbers semantic more) semantic (record { tells = some_tell semantic more }))
 
-length_marks : (list : Assembled) → length (marks_of list) ≡ length list.placed
+-- ---- the body of a tree
+
+pub made_unit : (list : Assembled) (tree : UnitTree) (b : Stmts) (unit : CoreUnit) → statements_in list tree ≡ Some b → has_short_tokens list ≡ true → MadeOf list b unit → MadeUnit list tree unit
+made_unit list tree b unit is short made = record {
+  statements = made.statements;
+  is = made.is;
+  body = λ semantic. ap (body_in semantic list) is ∙ rw short (made.body semantic);
+  assertions = made.assertions ∙ sym (ap (table_in list) is);
+}
+
+no_unit : (list : Assembled) (tree : UnitTree) (unit : CoreUnit) → ((semantic : Semantic) → body_in semantic list (statements_in list tree) ≡ None) → MadeUnit list tree unit → ⊥
+no_unit list tree unit none made =
+    let here : body_in Ignore list (statements_in list tree) ≡ None = none Ignore in
+    let there : body_in Ignore list (statements_in list tree) ≡ Some (view.stmts_of (unit_numbers Ignore unit) made.statements) = made.body Ignore in
+    absurd (cc)
+
+pub no_statements : (list : Assembled) (tree : UnitTree) → statements_in list tree ≡ None → (unit : CoreUnit) → MadeUnit list tree unit → ⊥
+no_statements list tree none unit made = no_unit list tree unit (λ semantic. ap (body_in semantic list) none) made
+
+pub long_tokens : (list : Assembled) (tree : UnitTree) (b : Stmts) → statements_in list tree ≡ Some b → has_short_tokens list ≡ false → (unit : CoreUnit) → MadeUnit list tree unit → ⊥
+long_tokens list tree b is long unit made = no_unit list tree unit (λ semantic. ap (body_in semantic list) is ∙ rw long refl) made
+
+both_answers : (list : Assembled) (tree : UnitTree) (b : Stmts) (told : Option CoreUnit) → statements_in list tree ≡ Some b → has_short_tokens list ≡ true
+    → MatchOption told ((semantic : Semantic) → stmts_in semantic list 1 0 [] b ≡ None) (MadeOf list b) → MatchOption told ((unit : CoreUnit) → MadeUnit list tree unit → ⊥) (MadeUnit list tree)
+both_answers list tree b None is short none = λ unit made. no_unit list tree unit (λ semantic. ap (body_in semantic list) is ∙ rw short (none semantic)) made
+both_answers list tree b (Some unit) is short made = made_unit list tree b unit is short made
+
+pub unit_answer : {E : Type 0} (list : Assembled) (tree : UnitTree) (b : Stmts) (r : Result (Option CoreUnit) E) → statements_in list tree ≡ Some b → has_short_tokens list ≡ true
+    → IfOk r (λ told. MatchOption told ((semantic : Semantic) → stmts_in semantic list 1 0 [] b ≡ None) (MadeOf list b)) → IfOk r (λ told. MatchOption told ((unit : CoreUnit) → MadeUnit list tree unit → ⊥) (MadeUnit list tree))
+unit_answer list tree b (Ok told) is short made = both_answers list tree b told is short made
+unit_answer list tree b (Err e) is short made = made
+
+-- ---- the tree of a list
+
+pub length_marks : (list : Assembled) → length (marks_of list) ≡ length list.placed
 length_marks list = marks_length (tokens_of list) (tokens_of list) 0 ∙ length-map list.placed (token_at list)
 
--- ---- the unit
+-- what was told of the tree of a list is told of the list
+of_tree : (list : Assembled) (marks : Marks) (tree : UnitTree) (told : Option CoreUnit) → marks ≡ marks_of list → IsTree marks tree
+    → MatchOption told ((unit : CoreUnit) → MadeUnit list tree unit → ⊥) (MadeUnit list tree) → MatchOption told ((unit : CoreUnit) → IsUnitOf list unit → ⊥) (IsUnitOf list)
+of_tree list marks tree None same is none =
+    λ unit other.
+    let its : IsTree (marks_of list) tree = subst (λ (ts : Marks). IsTree ts tree) same is in
+    let one : other.tree ≡ tree = its.2 other.tree other.is_tree.0 other.is_tree.1 in
+    none unit (record {
+      statements = other.statements;
+      is = record { alone = other.alone; declares = other.declares; name = other.name; no_calls = other.no_calls; tokens = other.tokens; bytes = other.bytes };
+      body = λ semantic. ap (λ (t : UnitTree). body_in semantic list (statements_in list t)) (sym one) ∙ other.body semantic;
+      assertions = other.assertions ∙ ap (λ (t : UnitTree). table_in list (statements_in list t)) one;
+    })
+of_tree list marks tree (Some unit) same is made = record {
+  tree = tree;
+  is_tree = subst (λ (ts : Marks). IsTree ts tree) same is;
+  statements = made.statements;
+  alone = made.is.alone;
+  declares = made.is.declares;
+  body = made.body;
+  assertions = made.assertions;
+  name = made.is.name;
+  no_calls = made.is.no_calls;
+  tokens = made.is.tokens;
+  bytes = made.is.bytes;
+}
 
-listed_in_itself : (table : List Assertion) → AreListed table table
-listed_in_itself table = recursion_from_All (λ (e : Assertion). IsListed table (assertion_of e)) table (λ k d inside. (k, get_or table k d, slice_get-get_or table k d inside, refl))
+pub tree_answer : {E : Type 0} (list : Assembled) (marks : Marks) (tree : UnitTree) (r : Result (Option CoreUnit) E) → marks ≡ marks_of list → IsTree marks tree
+    → IfOk r (λ told. MatchOption told ((unit : CoreUnit) → MadeUnit list tree unit → ⊥) (MadeUnit list tree)) → IfOk r (λ told. MatchOption told ((unit : CoreUnit) → IsUnitOf list unit → ⊥) (IsUnitOf list))
+tree_answer list marks tree (Ok told) same is made = of_tree list marks tree told same is made
+tree_answer list marks tree (Err e) same is made = made
 
-module _ (list : Assembled) (unit : CoreUnit) (short : All HasShortName list.files) (few : length list.placed ≤ most_tokens) (is : IsUnitOf list unit) where
-  made : (b : grammar.Stmts) → statements_in list is.tree ≡ Some b → (semantic : Semantic) → (has_short_tokens list ≡ true) × (stmts_in semantic list 1 0 [] b ≡ Some (body_of semantic unit is.statements))
-  made b e semantic = only_some (has_short_tokens list) (stmts_in semantic list 1 0 [] b) (body_of semantic unit is.statements) (ap (body_in semantic list) (sym e) ∙ is.body semantic)
-
-  built_of : (b : grammar.Stmts) → statements_in list is.tree ≡ Some b → IsBuilt unit is.statements
-  built_of b e =
-      let table = all_assertions_in list 1 b in
-      let its : unit.assertions ≡ table = is.assertions ∙ ap (table_in list) e in
-      let size : length (spell is.tree) ≡ length list.placed = ap (λ (w : Spots). length w) is.is_tree.1 ∙ length_numbered 0 (marks_of list) ∙ length_marks list in
-      let inside : HasFew (length (spell is.tree)) b = MatchOption-at_some _ _ b e (statements_are_few list is.tree) in
-      let typed : (semantic : Semantic) → AreStatements semantic list table [] 1 b (body_of semantic unit is.statements) =
-      λ semantic. MatchOption-at_some _ _ (body_of semantic unit is.statements) (made b e semantic).1 (stmts_are semantic list table 1 0 [] b) in
-      let sized : (semantic : Semantic) → AreSizedStatements semantic list 1 b (body_of semantic unit is.statements) =
-      λ semantic. MatchOption-at_some _ _ (body_of semantic unit is.statements) (made b e semantic).1 (stmts_sized semantic list (words_are_short list (made b e semantic).0) 1 0 [] b) in
-      record {
-        alone = is.alone;
-        typed = λ semantic. subst (λ (assertions : List Assertion). AreTyped assertions [] (body_of semantic unit is.statements)) (sym its) ((typed semantic).typed (listed_in_itself table));
-        light = λ semantic. omega (arith, (sized semantic).weight inside.0, inside.1, size, few);
-        numbered = rw its (all_are_numbered list 1 b);
-        few_assertions = rw its (omega (arith, (sized Enforce).count inside.0, inside.1, size, few));
-        short_comments = rw its (omega (arith, (sized Enforce).comments inside.0, inside.1, size, few));
-        short_files = rw its (all_files_are_short list short 1 b);
-        short_name = rw is.name (name_is_short list short 0);
-      }
-
-  found : (o : Option grammar.Stmts) → statements_in list is.tree ≡ o → IsBuilt unit is.statements
-  found None e = absurd (none-some (body_of Enforce unit is.statements) (ap (body_in Enforce list) (sym e) ∙ is.body Enforce))
-  found (Some b) e = built_of b e
-
-pub units_are_built : UnitsAreBuilt
-units_are_built list unit short few is = (is.statements, found list unit short few is (statements_in list is.tree) refl)
+-- a list that isn't grammatical is no unit
+pub no_tree : (list : Assembled) (marks : Marks) (place : ℕ) → marks ≡ marks_of list → IsPlace marks place → (unit : CoreUnit) → IsUnitOf list unit → ⊥
+no_tree list marks place same is unit other =
+    let its : IsPlace (marks_of list) place = subst (λ (ts : Marks). IsPlace ts place) same is in
+    its.0 (other.tree, other.is_tree.0, other.is_tree.1)

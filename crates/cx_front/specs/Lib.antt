@@ -1,4 +1,5 @@
 pub mod Literal
 pub mod Front
 pub mod Core
+pub mod Made
 pub mod Laws
