@@ -9,7 +9,7 @@ use Rattle.cx_lower.specs.Code.{live_behind, stmt_code, stmts_code, ends_code, s
 use Rattle.cx_lower.specs.Literals.{StmtFits, StmtsFit}
 use Rattle.cx_lower.specs.Emitted.{numbers_of, index_in, code_of_statement, code_of_statements}
 use Rattle.cx_lower.proofs.Joined.{Code}
-use Rattle.cx_lower.proofs.Lengths.{length_ends}
+use Rattle.cx_lower.proofs.Placed.{length_ends}
 
 no_fewer : (count : ℕ) (s : Stmt) → count ≤ live_behind count s
 no_fewer count (variable_declaration slot type i) = omega arith

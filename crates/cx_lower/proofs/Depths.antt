@@ -1,7 +1,8 @@
 -- The operand depths of code: a list with a depth for each of its places, so that each instruction leads to places with the depths that it makes.
-use Rattle.std.proofs.Common.{◌≡◌, ℕ, zero, suc, ◌+◌, ◌-◌, ◌*◌, ◌<◌, ◌≤◌, List, [], ◌∷◌, ◌++◌, length, Option, Some, None, refl, sym, ap, subst, ◌∙◌, arith}
+use Rattle.std.proofs.Common.{◌≡◌, ℕ, zero, suc, ◌+◌, ◌<◌, ◌≤◌, List, [], ◌∷◌, ◌++◌, length, Option, Some, refl, sym, ap, subst, ◌∙◌, arith}
 use Rattle.std.specs.Prelude.{slice_get}
 use Rattle.std.specs.List.{AllByRecursion}
+use Rattle.std.proofs.lemmas.Option.{same_Some}
 use Rattle.cx_code.specs.declared.code.Instruction.{Instruction}
 use Rattle.cx_code.specs.declared.image.Image.{Image}
 use Rattle.cx_code.specs.declared.image.Function.{Function}
@@ -9,7 +10,7 @@ use Rattle.cx_code.specs.declared.operation.Operation.{Operation}
 use Rattle.cx_code.specs.declared.operation.Operation.TheVariants as does
 use Rattle.cx_code.specs.Operation.{operation_of}
 use Rattle.cx_code.specs.Reached.{operation_at, HasIndices, taken_count, depth_after, Follows}
-use Rattle.cx_code.specs.Rules.{IsInRange, PassesArguments, HasDropper}
+use Rattle.cx_code.specs.Rules.{PassesArguments}
 
 -- an operation of compiled code: it has no globals, texts and exceptions, and its assertion, its function and its slot are there
 abbrev pub IsOurs : Image → Function → Operation → Type 0
@@ -81,12 +82,6 @@ module _ (image : Image) (function : Function) (depths : List ℕ) where
   local_append place [] b (d ∷ ds) es p q = absurd p
   local_append place (i ∷ a) b [] es p q = absurd p
 
-  some_is : (a b : Operation) → Some a ≡ Some b → a ≡ b
-  some_is a b e = cc
-
-  depth_is : (a b : ℕ) → Some a ≡ Some b → a ≡ b
-  depth_is a b e = cc
-
   -- at each place
   pub local_at : (place : ℕ) (is : List Instruction) (ds : List ℕ) (k : ℕ) (operation : Operation) (depth : ℕ) → AreLocal image function depths place is ds → operation_at is k ≡ Some operation → slice_get ds k ≡ Some depth → IsLocal image function depths (place + k) operation depth
   local_at place [] [] k operation depth p at d = absurd cc
@@ -94,8 +89,8 @@ module _ (image : Image) (function : Function) (depths : List ℕ) where
   local_at place (i ∷ is) [] k operation depth p at d = absurd p
   local_at place (i ∷ is) (e ∷ ds) zero operation depth p at d =
       let here : place ≡ place + 0 = omega arith in
-      let same : p.0.0 ≡ operation = some_is p.0.0 operation (sym p.0.1 ∙ at) in
-      let deep : e ≡ depth = depth_is e depth d in
+      let same : p.0.0 ≡ operation = same_Some p.0.0 operation (sym p.0.1 ∙ at) in
+      let deep : e ≡ depth = same_Some e depth d in
       let first = subst (λ (n : ℕ). IsLocal image function depths n p.0.0 e) here p.0.2 in
       let second = subst (λ (o : Operation). IsLocal image function depths (place + 0) o e) same first in
       subst (λ (n : ℕ). IsLocal image function depths (place + 0) operation n) deep second
@@ -107,14 +102,14 @@ module _ (image : Image) (function : Function) (depths : List ℕ) where
   shallow_at place [] [] k depth p d = absurd cc
   shallow_at place [] (e ∷ ds) k depth p d = absurd p
   shallow_at place (i ∷ is) [] k depth p d = absurd p
-  shallow_at place (i ∷ is) (e ∷ ds) zero depth p d = omega (arith, p.0.2.shallow, depth_is e depth d)
+  shallow_at place (i ∷ is) (e ∷ ds) zero depth p d = omega (arith, p.0.2.shallow, same_Some e depth d)
   shallow_at place (i ∷ is) (e ∷ ds) (suc k) depth p d = shallow_at (place + 1) is ds k depth p.1 d
 
   pub ours_at : (place : ℕ) (is : List Instruction) (ds : List ℕ) (k : ℕ) (operation : Operation) → AreLocal image function depths place is ds → operation_at is k ≡ Some operation → IsOurs image function operation
   ours_at place [] [] k operation p at = absurd cc
   ours_at place [] (e ∷ ds) k operation p at = absurd p
   ours_at place (i ∷ is) [] k operation p at = absurd p
-  ours_at place (i ∷ is) (e ∷ ds) zero operation p at = subst (IsOurs image function) (some_is p.0.0 operation (sym p.0.1 ∙ at)) p.0.2.ours
+  ours_at place (i ∷ is) (e ∷ ds) zero operation p at = subst (IsOurs image function) (same_Some p.0.0 operation (sym p.0.1 ∙ at)) p.0.2.ours
   ours_at place (i ∷ is) (e ∷ ds) (suc k) operation p at = ours_at (place + 1) is ds k operation p.1 at
 
   -- there are as many depths as instructions

@@ -1,12 +1,9 @@
 -- The operand depths of the code of typed expressions.
-use Rattle.std.proofs.Common.{◌≡◌, ℕ, suc, ◌+◌, ◌-◌, ◌<◌, ◌≤◌, pos, List, [], ◌∷◌, ◌++◌, length, Option, Some, None, refl, sym, subst, arith}
-use Rattle.std.specs.Prelude.{slice_get}
+use Rattle.std.proofs.Common.{◌≡◌, ℕ, ◌+◌, ◌<◌, ◌≤◌, pos, List, [], ◌∷◌, length, Option, Some, None, refl, sym, subst, arith}
 use Rattle.std.proofs.lemmas.Option.{slice_get_within}
-use Rattle.cx_types.specs.declared.value_type.Scalar.{Scalar}
 use Rattle.cx_code.specs.declared.code.Instruction.{Instruction}
 use Rattle.cx_code.specs.declared.image.Image.{Image}
 use Rattle.cx_code.specs.declared.image.Function.{Function}
-use Rattle.cx_code.specs.declared.operation.Operation.{Operation}
 use Rattle.cx_code.specs.declared.operation.Operation.TheVariants as does
 use Rattle.cx_code.specs.Operation.{operation_of}
 use Rattle.cx_core.specs.declared.number.IntegerType.{IntegerType}
@@ -16,7 +13,7 @@ use Rattle.cx_core.specs.declared.number.BinaryOperator.TheVariants as binary_op
 use Rattle.cx_core.specs.declared.number.UnaryOperator.{UnaryOperator}
 use Rattle.cx_core.specs.declared.number.UnaryOperator.TheVariants as unary_operators
 use Rattle.cx_core.specs.Operators.{integer_of}
-use Rattle.cx_core.specs.Tree.{ObjectType, scalar, number, Expr, literal, variable, unary, binary, assign, putchar, Operand, operand, Check}
+use Rattle.cx_core.specs.Tree.{scalar, number, Expr, literal, variable, unary, binary, assign, putchar, Operand, operand}
 use Rattle.cx_emit.specs.Operations.{scalar_of}
 use Rattle.cx_typed.specs.Typed.{Slots, unary_type, HasType, Gives, IsCondition}
 use Rattle.cx_typed.specs.Weight.{expr_weight, operand_weight}

@@ -1,5 +1,5 @@
 -- The two functions of the image of a unit are valid.
-use Rattle.std.proofs.Common.{◌≡◌, ℕ, zero, suc, ◌+◌, ◌-◌, ◌*◌, ◌<◌, ◌≤◌, List, [], ◌∷◌, ◌++◌, length, true, Option, Some, None, All, refl, sym, ap, subst, ◌∙◌, arith, inl, inr, pos, length-append}
+use Rattle.std.proofs.Common.{◌≡◌, ℕ, zero, suc, ◌+◌, ◌-◌, ◌*◌, ◌<◌, ◌≤◌, List, [], ◌∷◌, ◌++◌, length, true, Some, All, refl, sym, subst, arith, inl, inr, pos}
 use Rattle.std.proofs.lemmas.Bool.{cases_lt}
 use Rattle.std.specs.Prelude.{slice_get}
 use Rattle.std.proofs.lemmas.Option.{slice_get_within}
@@ -15,14 +15,14 @@ use Rattle.cx_core.specs.Tree as tree
 use Rattle.cx_core.specs.Tree.{Stmts}
 use Rattle.cx_typed.specs.Typed.{IsListed, AreTyped}
 use Rattle.cx_typed.specs.Weight.{stmts_weight}
-use Rattle.cx_lower.specs.Code.{push, get, end, jump, call, returns, ends_code, stmts_code, stmts_most, exit_of, exit_code, body_code}
+use Rattle.cx_lower.specs.Code.{returns, ends_code, stmts_code, stmts_most, exit_of, exit_code, body_code}
 use Rattle.cx_lower.specs.Tables.{main_function, body_function}
 use Rattle.cx_lower.proofs.Operations.{push_is, get_is, end_is, jump_is, call_is, returns_is}
-use Rattle.cx_lower.proofs.Depths.{At, AreAt, at_front, at_back, all_there, AreLocal, IsLocal, local_append}
+use Rattle.cx_lower.proofs.Depths.{At, AreAt, at_front, at_back, all_there, AreLocal, local_append}
 use Rattle.cx_lower.proofs.Reached.{HasPlacesAt, droppers, is_valid_function}
 use Rattle.cx_lower.proofs.Flows.{Flow, Exits}
 use Rattle.cx_lower.proofs.StatementFlows.{stmts_flow}
-use Rattle.cx_lower.proofs.Lengths.{length_ends, same_stmts}
+use Rattle.cx_lower.proofs.Placed.{same_stmts_length}
 
 -- ---- the code behind the statements
 
@@ -52,10 +52,13 @@ unfolding ends_code
 ends_local image function depths base zero start room at behind = let e : start + 2 * 0 ≡ start = omega arith in (subst (λ (n : ℕ). At depths n 1) e behind, tt)
 ends_local image function depths base (suc n) start room at behind =
     let e : start + 2 * suc n ≡ start + 1 + 1 + 2 * n = omega arith in
-    let rest = ends_local image function depths base n (start + 1 + 1) (omega arith) at.1.1 (subst (λ (n : ℕ). At depths n 1) e behind) in
-    (at.0, (
-    (does.Get (base + n), get_is (base + n), record { enough = omega arith; shallow = omega arith; ours = omega arith; onto = λ next follows. subst (λ (n : ℕ). At depths n 2) (sym follows) at.1.0 }),
-    ((does.End, end_is, record { enough = omega arith; shallow = omega arith; ours = tt; onto = λ next follows. subst (λ (n : ℕ). At depths n 1) (sym follows) rest.0 }), rest.1)))
+    let rest = ends_local image function depths base n (start + 1 + 1) (omega arith) at.1.1 (subst (λ (n : ℕ). At depths n 1) e behind) in (
+      at.0,
+      (
+        (does.Get (base + n), get_is (base + n), record { enough = omega arith; shallow = omega arith; ours = omega arith; onto = λ next follows. subst (λ (n : ℕ). At depths n 2) (sym follows) at.1.0 }),
+        ((does.End, end_is, record { enough = omega arith; shallow = omega arith; ours = tt; onto = λ next follows. subst (λ (n : ℕ). At depths n 1) (sym follows) rest.0 }), rest.1),
+      ),
+    )
 
 -- ---- the function with the body
 
@@ -70,7 +73,7 @@ module _ (image : Image) (assertions : List Assertion) (index : List ℕ → ℕ
       let most = stmts_most 0 b in
       let code = stmts_code index exit 0 0 0 b in
       let ends = ends_code 0 most in
-      let flow : Flow image function exit most 0 0 code 0 = stmts_flow image function exit most assertions index listed (omega arith) b [] 0 0 0 refl typed light (omega arith) (omega arith) in
+      let flow : Flow image function exit most 0 0 code 0 = stmts_flow image function exit most assertions index listed (omega arith) b [] 0 0 0 refl typed light (omega arith) in
       let behind = 0 ∷ 1 ∷ (ends_depths most ++ 1 ∷ []) in
       let depths = flow.made ++ behind in
       let start = 0 + length code in
@@ -80,19 +83,22 @@ module _ (image : Image) (assertions : List Assertion) (index : List ℕ → ℕ
       let at_ends = at_front depths (start + 1 + 1) (ends_depths most) (1 ∷ []) at_behind.1.1 in
       let over : start + 1 + 1 + length (ends_depths most) ≡ start + 1 + 1 + 2 * most = omega (arith, length_depths most) in
       let at_return = subst (λ (n : ℕ). At depths n 1) over (at_back depths (start + 1 + 1) (ends_depths most) (1 ∷ []) at_behind.1.1).0 in
-      let place : exit ≡ start + 1 + 1 + 2 * most = omega (arith, same_stmts index exit 0 b 0 0 0 0) in
+      let place : exit ≡ start + 1 + 1 + 2 * most = omega (arith, same_stmts_length index exit 0 0 0 0 0 b) in
       let at_exit = subst (λ (n : ℕ). At depths n 1) (sym place) at_return in
       let exits : Exits depths exit most = λ live le.
-          let there : start + 1 + 1 + 2 * (most - live) ≡ exit - 2 * live = omega (arith, place) in
-          subst (λ (n : ℕ). At depths n 1) there (ends_at depths most live (start + 1 + 1) le at_ends at_return) in
+      let there : start + 1 + 1 + 2 * (most - live) ≡ exit - 2 * live = omega (arith, place) in
+      subst (λ (n : ℕ). At depths n 1) there (ends_at depths most live (start + 1 + 1) le at_ends at_return) in
       let first = flow.local depths (at_front depths 0 flow.made behind at) at_behind.0 exits in
       let ending = ends_local image function depths 0 most (start + 1 + 1) (omega arith) at_ends at_return in
       let final : AreLocal image function depths (start + 1 + 1 + length ends) (returns ∷ []) (1 ∷ []) =
-          ((does.Return, returns_is, record { enough = omega arith; shallow = omega arith; ours = tt; onto = λ next follows. absurd follows }), tt) in
+      ((does.Return, returns_is, record { enough = omega arith; shallow = omega arith; ours = tt; onto = λ next follows. absurd follows }), tt) in
       let tail : AreLocal image function depths start (exit_code exit most) behind = (
-          (does.Push (pos 0), push_is 0 (omega arith), record { enough = omega arith; shallow = omega arith; ours = tt; onto = λ next follows. subst (λ (n : ℕ). At depths n 1) (sym follows) at_behind.1.0 }),
-          ((does.Jump exit, jump_is exit, record { enough = omega arith; shallow = omega arith; ours = tt; onto = λ next follows. subst (λ (n : ℕ). At depths n 1) (sym follows) at_exit }),
-          local_append image function depths (start + 1 + 1) ends (returns ∷ []) (ends_depths most) (1 ∷ []) ending.1 final)) in
+        (does.Push (pos 0), push_is 0 (omega arith), record { enough = omega arith; shallow = omega arith; ours = tt; onto = λ next follows. subst (λ (n : ℕ). At depths n 1) (sym follows) at_behind.1.0 }),
+        (
+          (does.Jump exit, jump_is exit, record { enough = omega arith; shallow = omega arith; ours = tt; onto = λ next follows. subst (λ (n : ℕ). At depths n 1) (sym follows) at_exit }),
+          local_append image function depths (start + 1 + 1) ends (returns ∷ []) (ends_depths most) (1 ∷ []) ending.1 final,
+        ),
+      ) in
       record {
         no_regions = refl;
         depths = depths;
@@ -120,7 +126,8 @@ module _ (image : Image) (body : Function) (is_body : slice_get image.functions 
         starts = refl;
         local = (
           (does.Call 1 0, call_is 1, record { enough = omega arith; shallow = omega arith; ours = (there, rw is_body no_parameters); onto = λ next follows. subst (λ (n : ℕ). At depths next n) (sym given) (subst (λ (n : ℕ). At depths n 1) (sym follows) refl) }),
-          ((does.Return, returns_is, record { enough = omega arith; shallow = omega arith; ours = tt; onto = λ next follows. absurd follows }), tt));
+          ((does.Return, returns_is, record { enough = omega arith; shallow = omega arith; ours = tt; onto = λ next follows. absurd follows }), tt),
+        );
       }
 
   pub main_valid : IsValidFunction image main_function

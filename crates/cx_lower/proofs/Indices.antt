@@ -1,22 +1,19 @@
 -- The place of an assertion in the image's table.
-use Rattle.std.proofs.Common.{◌≡◌, ℕ, zero, suc, ◌<◌, List, [], ◌∷◌, length, map, Bool, true, false, cond, Some, ap, sym, subst, arith}
+use Rattle.std.proofs.Common.{◌≡◌, ℕ, zero, suc, ◌<◌, List, [], ◌∷◌, length, Bool, true, false, cond, Some, ap, sym, subst, arith}
 use Rattle.std.specs.Prelude.{slice_get}
 use Rattle.std.specs.Str.{bytes_eq}
+use Rattle.std.proofs.lemmas.Option.{same_Some}
 use Rattle.std.proofs.lemmas.Slice.Eq.{bytes_eq-Decides}
 use Rattle.cx_core.specs.declared.unit.Assertion.{Assertion}
 use Rattle.cx_core.specs.Tree as tree
-use Rattle.cx_core.specs.Linked.{number_in}
 use Rattle.cx_typed.specs.Typed.{IsListed}
 use Rattle.cx_lower.specs.Tables.{index_of}
-
-same_assertion : (a b : Assertion) → Some a ≡ Some b → a ≡ b
-same_assertion a b e = cc
 
 -- a name that stands in the list is found there, no later than it stands
 index_below : (assertions : List Assertion) (i : ℕ) (e : Assertion) → slice_get assertions i ≡ Some e → index_of assertions e.name < length assertions
 index_below [] i e at = absurd cc
 index_below (a ∷ assertions) zero e at =
-    let same : a.name ≡ e.name = ap (λ (x : Assertion). x.name) (same_assertion a e at) in
+    let same : a.name ≡ e.name = ap (λ (x : Assertion). x.name) (same_Some a e at) in
     let found : bytes_eq a.name e.name ≡ true = (bytes_eq-Decides a.name e.name).1 same in
     subst (λ (v : Bool). cond v 0 (suc (index_of assertions e.name)) < suc (length assertions)) (sym found) (omega arith)
 index_below (a ∷ assertions) (suc i) e at =

@@ -1,86 +1,26 @@
--- How long code is: where it stands and where it exits to make no difference, and a statement has few instructions for what it weighs.
-use Rattle.std.proofs.Common.{◌≡◌, ℕ, zero, suc, ◌+◌, ◌-◌, ◌*◌, ◌≤◌, max, pos, List, [], ◌∷◌, ◌++◌, length, Option, Some, None, refl, arith, length-append}
+-- How long code is: a statement has few instructions for what it weighs.
+use Rattle.std.proofs.Common.{◌≡◌, ℕ, zero, suc, ◌+◌, ◌-◌, ◌*◌, ◌≤◌, pos, List, [], ◌∷◌, ◌++◌, length, Option, Some, None, arith, length-append}
 use Rattle.cx_code.specs.declared.code.Instruction.{Instruction}
 use Rattle.cx_core.specs.declared.number.IntegerType.{IntegerType}
 use Rattle.cx_core.specs.declared.number.IntegerType.TheVariants as types
 use Rattle.cx_core.specs.Words.{Semantic, Ignore, Observe, Enforce, QuickEnforce}
 use Rattle.cx_core.specs.Operators.{integer_of}
-use Rattle.cx_core.specs.Tree.{ObjectType, scalar, pointer, class, number, Expr, literal, variable, unary, binary, assign, putchar, Operand, operand, value, Check, Stmt, Stmts, expression, variable_declaration, block, if_else, while_loop, contract_assert, return_value, done, next}
-use Rattle.cx_typed.specs.Weight.{operand_weight, expr_weight, stmt_weight, stmts_weight, init_weight}
+use Rattle.cx_core.specs.Tree.{ObjectType, scalar, number, Expr, literal, variable, unary, binary, assign, putchar, Operand, operand, value, Check, Stmt, Stmts, expression, variable_declaration, block, if_else, while_loop, contract_assert, return_value, done, next}
+use Rattle.cx_typed.specs.Weight.{operand_weight, expr_weight, stmt_weight, stmts_weight}
 use Rattle.cx_lower.specs.Code.{unary_instruction, binary_instruction, swap, store, jump, jump_zero, out, discard, convert, returns, conversion_code, load_code, read_code, expr_code, operand_code, truth_code, discarded_code, violated_code, verdict_code, evaluation_code, times_code, check_code, ends_code, live_behind, stmt_code, stmts_code, stmt_most, stmts_most, exit_of, exit_code, body_code}
+use Rattle.cx_lower.proofs.Placed.{length_ends}
 use Rattle.cx_lower.proofs.ExpressionFlows.{some_weight}
 
--- ---- lengths that depend on nothing else
-
-pub length_ends : (base count : ℕ) → length (ends_code base count) ≡ 2 * count
-unfolding ends_code
-length_ends base zero = refl
-length_ends base (suc n) = omega (arith, length_ends base n)
-
-same_violated : (semantic : Semantic) (i j : ℕ) → length (violated_code semantic i) ≡ length (violated_code semantic j)
-same_violated Ignore i j = refl
-same_violated Observe i j = refl
-same_violated Enforce i j = refl
-same_violated QuickEnforce i j = refl
+-- ---- codes that are joined
 
 length_evaluation : (semantic : Semantic) (start i : ℕ) (predicate : Operand) → length (evaluation_code semantic start i predicate) ≡ 3 + length (truth_code predicate) + length (violated_code semantic i)
 length_evaluation semantic start i predicate = omega (arith, length-append (truth_code predicate) (verdict_code semantic (start + 1 + length (truth_code predicate)) i))
 
-same_times : (times : ℕ) (a b : List Instruction) → length a ≡ length b → length (times_code times a) ≡ length (times_code times b)
-same_times zero a b e = refl
-same_times (suc n) a b e = e
-
-same_check : (index : List ℕ → ℕ) (start other : ℕ) (c : Check) → length (check_code index start c) ≡ length (check_code index other c)
-same_check index start other c =
-    let i = index c.assertion.name in
-    same_times c.times (evaluation_code c.semantic start i c.predicate) (evaluation_code c.semantic other i c.predicate)
-    (omega (arith, length_evaluation c.semantic start i c.predicate, length_evaluation c.semantic other i c.predicate))
-
-same_discarded : (start other : ℕ) (e : Expr) → length (discarded_code start e) ≡ length (discarded_code other e)
-same_discarded start other (putchar a) = omega (arith, length-append (operand_code a) (jump (start + length (operand_code a) + 1) ∷ out ∷ discard ∷ []), length-append (operand_code a) (jump (other + length (operand_code a) + 1) ∷ out ∷ discard ∷ []))
-same_discarded start other e = refl
-
-length_if : (start : ℕ) (c a b : List Instruction) (to over : ℕ) → length (c ++ jump_zero to ∷ (a ++ jump over ∷ b)) ≡ length c + length a + length b + 2
-length_if start c a b to over = omega (arith, length-append c (jump_zero to ∷ (a ++ jump over ∷ b)), length-append a (jump over ∷ b))
+length_if : (c a b : List Instruction) (to over : ℕ) → length (c ++ jump_zero to ∷ (a ++ jump over ∷ b)) ≡ length c + length a + length b + 2
+length_if c a b to over = omega (arith, length-append c (jump_zero to ∷ (a ++ jump over ∷ b)), length-append a (jump over ∷ b))
 
 length_while : (c a : List Instruction) (top to again : ℕ) → length (jump top ∷ (c ++ jump_zero to ∷ (a ++ jump again ∷ []))) ≡ length c + length a + 3
 length_while c a top to again = omega (arith, length-append c (jump_zero to ∷ (a ++ jump again ∷ [])), length-append a (jump again ∷ []))
-
-module _ (index : List ℕ → ℕ) (exit exit' : ℕ) where
-  mutual
-    unfolding stmt_code
-
-    pub same_stmt : (s : Stmt) (live start other : ℕ) → length (stmt_code index exit live start s) ≡ length (stmt_code index exit' live other s)
-    same_stmt (expression e) live start other = same_discarded start other e
-    same_stmt (variable_declaration slot type (value a)) live start other = refl
-    same_stmt (variable_declaration slot type i) live start other = refl
-    same_stmt (block b) live start other = same_stmts b live 0 start other
-    same_stmt (if_else c a b) live start other =
-        let p = start + length (truth_code c) + 1 in
-        let q = other + length (truth_code c) + 1 in
-        let first = stmt_code index exit live p a in
-        let first' = stmt_code index exit' live q a in
-        let second = stmt_code index exit live (p + length first + 1) b in
-        let second' = stmt_code index exit' live (q + length first' + 1) b in
-        omega (arith, same_stmt a live p q, same_stmt b live (p + length first + 1) (q + length first' + 1), length_if start (truth_code c) first second (p + length first + 1) (p + length first + 1 + length second), length_if start (truth_code c) first' second' (q + length first' + 1) (q + length first' + 1 + length second'))
-    same_stmt (while_loop c body) live start other =
-        let p = start + 1 + length (truth_code c) + 1 in
-        let q = other + 1 + length (truth_code c) + 1 in
-        let first = stmt_code index exit live p body in
-        let first' = stmt_code index exit' live q body in
-        omega (arith, same_stmt body live p q, length_while (truth_code c) first (start + 1) (p + length first + 1) (start + 1), length_while (truth_code c) first' (other + 1) (q + length first' + 1) (other + 1))
-    same_stmt (contract_assert c) live start other = same_check index start other c
-    same_stmt (return_value a) live start other = omega (arith, length-append (operand_code a) (jump (exit - 2 * live) ∷ []), length-append (operand_code a) (jump (exit' - 2 * live) ∷ []))
-    same_stmt s live start other = refl
-
-    pub same_stmts : (b : Stmts) (base count start other : ℕ) → length (stmts_code index exit base count start b) ≡ length (stmts_code index exit' base count other b)
-    same_stmts done base count start other = refl
-    same_stmts (next s rest) base count start other =
-        let first = stmt_code index exit (base + count) start s in
-        let first' = stmt_code index exit' (base + count) other s in
-        let p = start + length first in
-        let q = other + length first' in
-        omega (arith, same_stmt s (base + count) start other, same_stmts rest base (live_behind count s) p q, length-append first (stmts_code index exit base (live_behind count s) p rest), length-append first' (stmts_code index exit' base (live_behind count s) q rest))
 
 -- ---- a few for each expression and statement
 
@@ -157,7 +97,7 @@ module _ (index : List ℕ → ℕ) (exit : ℕ) where
         let first = stmt_code index exit live p a in
         let q = p + length first + 1 in
         let second = stmt_code index exit live q b in
-        omega (arith, short_stmt a live p, short_stmt b live q, short_truth c, length_if start (truth_code c) first second q (q + length second))
+        omega (arith, short_stmt a live p, short_stmt b live q, short_truth c, length_if (truth_code c) first second q (q + length second))
     short_stmt (while_loop c body) live start =
         let p = start + 1 + length (truth_code c) + 1 in
         let first = stmt_code index exit live p body in

@@ -2,7 +2,6 @@ pub mod Operations
 pub mod Parts
 pub mod Typing
 pub mod Placed
-pub mod Instructions
 pub mod Scopes
 pub mod Expressions
 pub mod Statements

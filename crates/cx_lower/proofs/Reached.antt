@@ -1,7 +1,7 @@
 -- Functions without regions, each of whose places has one depth, are valid.
-use Rattle.std.proofs.Common.{◌≡◌, ℕ, ◌+◌, ◌<◌, ◌≤◌, List, [], length, Option, Some, None, All, refl, sym, ap, subst, ◌∙◌, arith, inl}
+use Rattle.std.proofs.Common.{◌≡◌, ℕ, ◌+◌, ◌<◌, List, [], length, Option, Some, All, refl, sym, subst, ◌∙◌, arith, inl}
 use Rattle.std.specs.Prelude.{slice_get}
-use Rattle.std.proofs.lemmas.Option.{slice_get_within}
+use Rattle.std.proofs.lemmas.Option.{slice_get_within, same_Some}
 use Rattle.std.proofs.lemmas.List.Elements.{All-from_recursion, All-nil}
 use Rattle.cx_code.specs.declared.code.Instruction.{Instruction}
 use Rattle.cx_code.specs.declared.code.Region.{Region}
@@ -10,8 +10,8 @@ use Rattle.cx_code.specs.declared.image.Function.{Function}
 use Rattle.cx_code.specs.declared.operation.Operation.{Operation}
 use Rattle.cx_code.specs.declared.operation.Operation.TheVariants as does
 use Rattle.cx_code.specs.Operation.{operation_of}
-use Rattle.cx_code.specs.Reached.{operation_at, Follows, Origin, Plain, Cleanup, IsReached, start, target, onwards}
-use Rattle.cx_code.specs.Rules.{IsValidFunction, IsInRange, HasType, HasPlaces, HasDepths, HasOrder, IsNested, IsRegionOf, PassesArguments, HasDropper}
+use Rattle.cx_code.specs.Reached.{operation_at, Origin, Plain, Cleanup, IsReached, start, target, onwards}
+use Rattle.cx_code.specs.Rules.{IsValidFunction, IsInRange, HasType, HasPlaces, HasDepths, HasOrder, IsRegionOf, PassesArguments, HasDropper}
 use Rattle.cx_lower.proofs.Depths.{IsOurs, At, IsLocal, AreLocal, local_at, shallow_at, ours_at, as_many, of_each}
 
 -- it has no regions, and its places have these depths
@@ -80,12 +80,9 @@ module _ (image : Image) (function : Function) (has : HasPlacesAt image function
   not_cleanup : (place depth : ℕ) → IsReached image function Cleanup place depth → ⊥
   not_cleanup place depth reached = let e : Cleanup ≡ Plain = (placed Cleanup place depth reached).plain in cc
 
-  same_depth : (a b : ℕ) → Some a ≡ Some b → a ≡ b
-  same_depth a b e = cc
-
   has_depths : HasDepths image function
   has_depths = record {
-    one = λ a b place depth other r s. same_depth depth other (sym (placed a place depth r).at ∙ (placed b place other s).at);
+    one = λ a b place depth other r s. same_Some depth other (sym (placed a place depth r).at ∙ (placed b place other s).at);
     enough = λ origin place depth operation r is. (at_place place depth operation (placed origin place depth r).at is).enough;
     shallow = λ origin place depth r. shallow_at image function has.depths 0 function.code has.depths place depth has.local (placed origin place depth r).at;
   }

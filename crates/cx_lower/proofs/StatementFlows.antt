@@ -1,8 +1,7 @@
 -- The operand depths of the code of typed statements, each of which begins and ends without operands.
-use Rattle.std.proofs.Common.{◌≡◌, ℕ, zero, suc, ◌+◌, ◌-◌, ◌*◌, ◌<◌, ◌≤◌, max, List, [], ◌∷◌, ◌++◌, length, Option, Some, None, refl, sym, ap, subst, ◌∙◌, arith, length-append}
+use Rattle.std.proofs.Common.{◌≡◌, ℕ, zero, suc, ◌+◌, ◌<◌, ◌≤◌, List, [], ◌∷◌, ◌++◌, length, Option, Some, None, refl, sym, subst, ◌∙◌, arith, length-append}
 use Rattle.std.specs.Prelude.{slice_get}
 use Rattle.std.proofs.lemmas.Option.{slice_get_within}
-use Rattle.cx_types.specs.declared.value_type.Scalar.{Scalar}
 use Rattle.cx_code.specs.declared.code.Instruction.{Instruction}
 use Rattle.cx_code.specs.declared.image.Image.{Image}
 use Rattle.cx_code.specs.declared.image.Function.{Function}
@@ -14,37 +13,13 @@ use Rattle.cx_core.specs.Words.{Definer, Semantic, Ignore, Observe, Enforce, Qui
 use Rattle.cx_core.specs.Operators.{integer_of}
 use Rattle.cx_core.specs.Tree as tree
 use Rattle.cx_core.specs.Tree.{ObjectType, scalar, Expr, variable, assign, putchar, Operand, operand, value, Check, Stmt, Stmts, empty, expression, variable_declaration, block, if_else, while_loop, contract_assert, return_value, done, next}
-use Rattle.cx_typed.specs.Typed.{Slots, Gives, IsCondition, IsListed, IsTypedDeclaration, with_slot, seen_behind, IsTyped, AreTyped}
+use Rattle.cx_typed.specs.Typed.{Slots, Gives, IsCondition, IsListed, IsTypedDeclaration, seen_behind, IsTyped, AreTyped}
 use Rattle.cx_typed.specs.Weight.{operand_weight, expr_weight, stmt_weight, stmts_weight}
-use Rattle.cx_lower.specs.Code.{discard, swap, get, make, end, store, jump, out, begin, verdict, violate, contract_end, expr_code, operand_code, truth_code, violated_code, verdict_code, evaluation_code, times_code, check_code, ends_code, live_behind, stmt_code, stmts_code, stmt_most, stmts_most}
+use Rattle.cx_lower.specs.Code.{discard, swap, get, make, end, store, jump, out, begin, verdict, violate, contract_end, expr_code, operand_code, violated_code, verdict_code, evaluation_code, times_code, ends_code, live_behind, stmt_code, stmts_code, stmt_most, stmts_most}
 use Rattle.cx_lower.proofs.Operations.{discard_is, swap_is, make_is, end_is, store_is, out_is, begin_is, verdict_is, violate_is, contract_end_is}
+use Rattle.cx_lower.proofs.Typing.{live_more, live_within, seen_length}
 use Rattle.cx_lower.proofs.Flows.{Flow, nothing, joined, step, stop, pass, leave, skip, branch, loop}
 use Rattle.cx_lower.proofs.ExpressionFlows.{get_flow, operand_flow, truth_flow}
-
--- ---- how many variables are visible
-
-pub behind_is : (base count : ℕ) (s : Stmt) → base + live_behind count s ≡ live_behind (base + count) s
-behind_is base count (variable_declaration slot type i) = omega arith
-behind_is base count s = refl
-
-with_slot_is : (assertions : List Assertion) (slots : Slots) (slot : ℕ) (o : Option IntegerType) (a : Operand) → IsTypedDeclaration slots slot o a → suc (length slots) ≡ length (with_slot slots o)
-with_slot_is assertions slots slot None a typed = absurd typed
-with_slot_is assertions slots slot (Some type) a typed = omega (arith, length-append slots (type ∷ []))
-
-pub seen_is : (assertions : List Assertion) (slots : Slots) (s : Stmt) → IsTyped assertions slots s → live_behind (length slots) s ≡ length (seen_behind slots s)
-unfolding IsTyped
-seen_is assertions slots (variable_declaration slot (scalar s) (value a)) typed = with_slot_is assertions slots slot (integer_of s) a typed
-seen_is assertions slots (variable_declaration slot type i) typed = absurd typed
-seen_is assertions slots s typed = refl
-
-pub least_behind : (live : ℕ) (s : Stmt) → live ≤ live_behind live s
-least_behind live (variable_declaration slot type i) = omega arith
-least_behind live s = omega arith
-
-pub least_most : (b : Stmts) (live : ℕ) → live ≤ stmts_most live b
-unfolding stmts_most
-least_most done live = omega arith
-least_most (next s rest) live = omega (arith, least_behind live s, least_most rest (live_behind live s))
 
 module _ (image : Image) (function : Function) (exit most : ℕ) where
   abbrev Goes : (start first : ℕ) → List Instruction → (last : ℕ) → Type 0
@@ -129,28 +104,30 @@ module _ (image : Image) (function : Function) (exit most : ℕ) where
     mutual
       unfolding IsTyped stmt_code stmt_weight stmt_most expr_weight expr_code
 
-      pub stmt_flow : (s : Stmt) (slots : Slots) (live start : ℕ) → live ≡ length slots → IsTyped assertions slots s → stmt_weight s ≤ 4096 → live ≤ most → stmt_most live s ≤ most → Goes start 0 (stmt_code index exit live start s) 0
-      stmt_flow empty slots live start same typed le visible few = nothing image function exit most start 0
-      stmt_flow (expression (assign (variable slot) a)) slots live start same typed le visible few = assign_flow slots (omega arith) slot a typed.0 start typed.1 typed.2 (omega arith)
-      stmt_flow (expression (putchar a)) slots live start same typed le visible few = putchar_flow slots (omega arith) a start typed (omega arith)
-      stmt_flow (variable_declaration slot (scalar s) (value a)) slots live start same typed le visible few = declaration_flow slots slot (integer_of s) a start (omega arith) typed (omega arith)
-      stmt_flow (block b) slots live start same typed le visible few = stmts_flow b slots live 0 start (omega arith) typed (omega arith) (omega arith) (let e : live ≡ live + 0 = omega arith in subst (λ (n : ℕ). stmts_most n b ≤ most) e few)
-      stmt_flow (if_else c a b) slots live start same typed le visible few =
-          branch image function exit most (truth_flow image function exit most slots (omega arith) c start typed.0 (omega arith)) (stmt_flow a slots live _ same typed.2 (omega arith) visible (omega arith)) (stmt_flow b slots live _ same typed.4 (omega arith) visible (omega arith))
-      stmt_flow (while_loop c body) slots live start same typed le visible few =
-          loop image function exit most (truth_flow image function exit most slots (omega arith) c _ typed.0 (omega arith)) (stmt_flow body slots live _ same typed.2 (omega arith) visible few)
-      stmt_flow (contract_assert c) slots live start same typed le visible few =
+      pub stmt_flow : (s : Stmt) (slots : Slots) (live start : ℕ) → live ≡ length slots → IsTyped assertions slots s → stmt_weight s ≤ 4096 → stmt_most live s ≤ most → Goes start 0 (stmt_code index exit live start s) 0
+      stmt_flow empty slots live start same typed le few = nothing image function exit most start 0
+      stmt_flow (expression (assign (variable slot) a)) slots live start same typed le few = assign_flow slots (omega arith) slot a typed.0 start typed.1 typed.2 (omega arith)
+      stmt_flow (expression (putchar a)) slots live start same typed le few = putchar_flow slots (omega arith) a start typed (omega arith)
+      stmt_flow (variable_declaration slot (scalar s) (value a)) slots live start same typed le few = declaration_flow slots slot (integer_of s) a start (omega arith) typed (omega arith)
+      stmt_flow (block b) slots live start same typed le few = stmts_flow b slots live 0 start (omega arith) typed (omega arith) (let e : live ≡ live + 0 = omega arith in subst (λ (n : ℕ). stmts_most n b ≤ most) e few)
+      stmt_flow (if_else c a b) slots live start same typed le few =
+          let visible = live_within live a in
+          branch image function exit most (truth_flow image function exit most slots (omega arith) c start typed.0 (omega arith)) (stmt_flow a slots live _ same typed.2 (omega arith) (omega arith)) (stmt_flow b slots live _ same typed.4 (omega arith) (omega arith))
+      stmt_flow (while_loop c body) slots live start same typed le few =
+          let visible = live_within live body in
+          loop image function exit most (truth_flow image function exit most slots (omega arith) c _ typed.0 (omega arith)) (stmt_flow body slots live _ same typed.2 (omega arith) few)
+      stmt_flow (contract_assert c) slots live start same typed le few =
           times_flow slots (omega arith) c.times start (evaluation_code c.semantic start (index c.assertion.name) c.predicate)
           (evaluation_flow slots (omega arith) c.semantic start (index c.assertion.name) c.predicate (listed c.assertion typed.1) typed.2 (omega arith))
-      stmt_flow (return_value a) slots live start same typed le visible few =
-          joined image function exit most (operand_flow image function exit most slots (omega arith) a types.Int start 0 typed (omega arith)) (leave image function exit most live visible)
-      stmt_flow s slots live start same typed le visible few = absurd typed
+      stmt_flow (return_value a) slots live start same typed le few =
+          joined image function exit most (operand_flow image function exit most slots (omega arith) a types.Int start 0 typed (omega arith)) (leave image function exit most live few)
+      stmt_flow s slots live start same typed le few = absurd typed
 
-      pub stmts_flow : (b : Stmts) (slots : Slots) (base count start : ℕ) → base + count ≡ length slots → AreTyped assertions slots b → stmts_weight b ≤ 4096 → base + count ≤ most → stmts_most (base + count) b ≤ most → Goes start 0 (stmts_code index exit base count start b) 0
-      stmts_flow done slots base count start same typed le visible few = ends_flow base count start (omega arith)
-      stmts_flow (next s rest) slots base count start same typed le visible few =
-          let behind = behind_is base count s in
-          let seen : base + live_behind count s ≡ length (seen_behind slots s) = behind ∙ ap (λ (n : ℕ). live_behind n s) same ∙ seen_is assertions slots s typed.0 in
+      pub stmts_flow : (b : Stmts) (slots : Slots) (base count start : ℕ) → base + count ≡ length slots → AreTyped assertions slots b → stmts_weight b ≤ 4096 → stmts_most (base + count) b ≤ most → Goes start 0 (stmts_code index exit base count start b) 0
+      stmts_flow done slots base count start same typed le few = ends_flow base count start (omega arith)
+      stmts_flow (next s rest) slots base count start same typed le few =
+          let behind = live_more base count s in
+          let seen : base + live_behind count s ≡ length (seen_behind slots s) = behind ∙ seen_length assertions slots (base + count) s same typed.0 in
           let few_behind : stmts_most (live_behind (base + count) s) rest ≤ most = omega arith in
           let few_rest = subst (λ (n : ℕ). stmts_most n rest ≤ most) (sym behind) few_behind in
-          joined image function exit most (stmt_flow s slots (base + count) start same typed.0 (omega arith) visible (omega arith)) (stmts_flow rest (seen_behind slots s) base (live_behind count s) _ seen typed.1 (omega arith) (omega (arith, least_most rest (base + live_behind count s), few_rest)) few_rest)
+          joined image function exit most (stmt_flow s slots (base + count) start same typed.0 (omega arith) (omega arith)) (stmts_flow rest (seen_behind slots s) base (live_behind count s) _ seen typed.1 (omega arith) few_rest)

@@ -1,12 +1,12 @@
 -- A file can hold the image of a unit.
-use Rattle.std.proofs.Common.{◌≡◌, ℕ, suc, ◌+◌, ◌*◌, ◌<◌, ◌≤◌, List, [], ◌∷◌, ◌++◌, length, All, ap, ◌∙◌, arith, length-append, lit≤, lit<, true, false, cond, codes, refl}
+use Rattle.std.proofs.Common.{◌≡◌, ℕ, suc, ◌+◌, ◌*◌, ◌<◌, ◌≤◌, List, [], ◌∷◌, ◌++◌, length, ap, ◌∙◌, arith, length-append, lit≤, lit<, true, false, cond, codes, refl}
 use Rattle.std.specs.Prelude.{sum_by}
 use Rattle.std.specs.List.{flat_map, AllByRecursion}
 use Rattle.std.specs.Str.{bytes_eq}
 use Rattle.std.proofs.lemmas.Grind.{flat_map-append}
 use Rattle.std.proofs.lemmas.List.{length-map}
 use Rattle.std.proofs.lemmas.List.Sums.{sum_by-cons}
-use Rattle.std.proofs.lemmas.List.Elements.{All-from_recursion, recursion_from_All, All-nil}
+use Rattle.std.proofs.lemmas.List.Elements.{All-from_recursion, All-nil, All-cons, All-append, All-weaker}
 use Rattle.cx_code.specs.declared.code.Instruction.{Instruction}
 use Rattle.cx_code.specs.declared.image.Image.{Image}
 use Rattle.cx_code.specs.declared.image.Assertion as entry
@@ -19,7 +19,7 @@ use Rattle.cx_core.specs.declared.unit.Assertion.{Assertion}
 use Rattle.cx_core.specs.Tree.{Stmts}
 use Rattle.cx_typed.specs.Weight.{stmts_weight}
 use Rattle.cx_typed.specs.Built.{most_weight, most_comments, longest_name}
-use Rattle.cx_lower.specs.Code.{body_code, stmts_most}
+use Rattle.cx_lower.specs.Code.{body_code}
 use Rattle.cx_lower.specs.Tables.{comments_of, other_files, entry_of, entries_of, index_of, main_function, body_function, image_of}
 use Rattle.cx_lower.proofs.Lengths.{length_body, few_stmts}
 
@@ -32,14 +32,6 @@ pub record IsSmall (unit : CoreUnit) (b : Stmts) : Type 0 where
   pub name : length unit.name ≤ longest_name
 
 -- ---- lists
-
-every : {X : Type 0} (P Q : X → Type 0) → ((x : X) → P x → Q x) → (xs : List X) → AllByRecursion P xs → AllByRecursion Q xs
-every P Q so [] each = tt
-every P Q so (x ∷ xs) each = (so x each.0, every P Q so xs each.1)
-
-both : {X : Type 0} (P : X → Type 0) (xs ys : List X) → AllByRecursion P xs → AllByRecursion P ys → AllByRecursion P (xs ++ ys)
-both P [] ys p q = q
-both P (x ∷ xs) ys p q = (p.0, both P xs ys p.1 q)
 
 -- the length of a list of fields that are each no longer than a number
 length_fields : {X : Type 0} (field : X → List ℕ) (most : ℕ) (xs : List X) → AllByRecursion (λ x. length (field x) ≤ most) xs → length (flat_map field xs) ≤ most * length xs
@@ -90,8 +82,8 @@ few_comments assertions = length-map assertions (λ (a : Assertion). a.comment)
 
 -- texts that are no longer than a number
 length_texts : (most : ℕ) (texts : List (List ℕ)) → AllByRecursion (λ (bytes : List ℕ). length bytes ≤ most) texts → length (flat_map text texts) ≤ (4 + most) * length texts
-length_texts most texts each =
-    length_fields text (4 + most) texts (every (λ (bytes : List ℕ). length bytes ≤ most) (λ (bytes : List ℕ). length (text bytes) ≤ 4 + most) (λ bytes le. omega (arith, length_text bytes)) texts each)
+length_texts most [] each = omega arith
+length_texts most (t ∷ ts) each = omega (arith, each.0, length_text t, length_texts most ts each.1, length-append (text t) (flat_map text ts))
 
 -- ---- assertions
 
@@ -217,11 +209,12 @@ module _ (unit : CoreUnit) (b : Stmts) (small : IsSmall unit b) where
       let other = length unit.assertions + 1 in
       let all = length-append comments files in
       let count = few_comments unit.assertions in
-      let comments_short = every (λ (bytes : List ℕ). length bytes ≤ 8388608) IsShort (λ bytes le. omega arith) comments (short_comments 8388608 unit.assertions small.comments) in
-      let files_short = every (λ (bytes : List ℕ). length bytes ≤ 1024) IsShort (λ bytes le. omega arith) files (short_files unit.name 1024 unit.assertions small.files) in
+      let comments_short = All-from_recursion IsShort comments (short_comments 134217728 unit.assertions (omega (arith, small.comments))) in
+      let files_all = All-from_recursion (λ (bytes : List ℕ). length bytes ≤ 1024) files (short_files unit.name 1024 unit.assertions small.files) in
+      let files_short = All-weaker (λ (bytes : List ℕ). length bytes ≤ 1024) IsShort (λ bytes le. omega arith) files files_all in
       record {
         texts = omega (arith, count, small.few_assertions, all, few_files unit.name unit.assertions);
-        each_text = All-from_recursion IsShort (unit.name ∷ (comments ++ files)) (omega (arith, small.name), both IsShort comments files comments_short files_short);
+        each_text = All-cons IsShort unit.name (comments ++ files) (omega (arith, small.name)) (All-append IsShort comments files comments_short files_short);
         types = lit< tt;
         each_type = All-nil (IsStorableType image);
         globals = lit< tt;

@@ -1,5 +1,5 @@
 -- The image of a typed unit within the limits is valid.
-use Rattle.std.proofs.Common.{ℕ, ◌+◌, ◌<◌, ◌≤◌, List, [], ◌∷◌, length, All, refl, arith}
+use Rattle.std.proofs.Common.{◌+◌, ◌<◌, ◌≤◌, [], ◌∷◌, length, All, refl, arith}
 use Rattle.std.specs.Prelude.{sum_by}
 use Rattle.std.proofs.lemmas.List.Elements.{All-from_recursion, recursion_from_All, All-nil}
 use Rattle.cx_code.specs.declared.image.Function.{Function}
@@ -17,7 +17,7 @@ use Rattle.cx_typed.specs.Built.{most_weight, most_comments, longest_name}
 use Rattle.cx_lower.specs.Tables.{index_of, main_function, body_function, image_of}
 use Rattle.cx_lower.proofs.Indices.{listed_below}
 use Rattle.cx_lower.proofs.Functions.{main_valid, main_droppers, body_valid, body_droppers}
-use Rattle.cx_lower.proofs.Stored.{IsSmall, length_entries, is_storable}
+use Rattle.cx_lower.proofs.Stored.{length_entries, is_storable}
 
 pub image_is_valid : (unit : CoreUnit) (b : Stmts) → AreTyped unit.assertions [] b → AreNumbered 1 unit.assertions → stmts_weight b ≤ most_weight
     → length unit.assertions ≤ most_weight → sum_by (λ (a : Assertion). length a.comment) unit.assertions ≤ most_comments
@@ -28,7 +28,7 @@ image_is_valid unit b typed numbered light few comments files name =
     let index = index_of unit.assertions in
     let functions = main_function ∷ body_function index b ∷ [] in
     let listed : (a : tree.Assertion) → IsListed unit.assertions a → index a.name < length image.assertions =
-        λ a is. omega (arith, listed_below unit.assertions a is, length_entries unit.name (length unit.assertions + 1) 1 unit.assertions) in
+    λ a is. omega (arith, listed_below unit.assertions a is, length_entries unit.name (length unit.assertions + 1) 1 unit.assertions) in
     record {
       storable = is_storable unit b (record { light = light; few_assertions = few; comments = comments; files = recursion_from_All (λ (a : Assertion). length a.file ≤ longest_name) unit.assertions files; name = name });
       each_function = All-from_recursion (IsValidFunction image) functions (main_valid image (body_function index b) refl refl refl, (body_valid image unit.assertions index listed b typed light, tt));
