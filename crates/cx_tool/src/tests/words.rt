@@ -106,8 +106,8 @@ fn other_numbers_of_steps_are_refused(rt: HostRuntime) -> Result<(), Fail> {
 fn a_run_takes_as_many_steps_as_are_asked_for(rt: HostRuntime) -> Result<(), Fail> {
     let text = b"int main(){ contract_assert(1 < 2); return 7; }";
     let rows: [(&str, u8, &[u8]); 4] = [
-        ("11", 7, b"cx: returned 7\n"),
-        ("10", 138, b"cx: steps spent: 10\n"),
+        ("12", 7, b"cx: returned 7\n"),
+        ("11", 138, b"cx: steps spent: 11\n"),
         ("1", 138, b"cx: steps spent: 1\n"),
         ("10000000", 7, b"cx: returned 7\n"),
     ];
