@@ -6,4 +6,6 @@ pub unit_of-requires-clause-few : goal.unit_of-requires-clause-few
 unit_of-requires-clause-few c = omega (arith, ap length c.items.ensures)
 
 pub lower-requires : goal.lower-requires
-lower-requires c = c.units_are_built.ensures c.args.list.now c.in-Some.unit c.requires.short (omega (arith, ap length c.items.ensures)) (unit_told c.args.list.now c.in_ok-unit.field-0 c.in-Some.unit c.in-Some.is c.in_ok-unit.ensures)
+lower-requires c = record {
+  built = c.units_are_built.ensures c.args.list.now c.in-Some.unit c.requires.short (omega (arith, ap length c.items.ensures)) (unit_told c.args.list.now c.in_ok-unit.field-0 c.in-Some.unit c.in-Some.is c.in_ok-unit.ensures);
+}
