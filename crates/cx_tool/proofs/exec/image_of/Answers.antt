@@ -6,8 +6,10 @@ use Rattle.cx_tool.proofs.exec.image_of.Goals as goal
 pub unit_of-requires-clause-few : goal.unit_of-requires-clause-few
 unit_of-requires-clause-few c = omega (arith, ap length c.items.ensures)
 
-pub lower-requires-clause-small : goal.lower-requires-clause-small
-lower-requires-clause-small c = c.built_units_are_small.ensures c.args.list.now c.in-Some.unit c.requires.short (omega (arith, ap length c.items.ensures)) (unit_told c.args.list.now c.in_ok-unit.field-0 c.in-Some.unit c.in-Some.is c.in_ok-unit.ensures)
+pub lower-requires : goal.lower-requires
+lower-requires c = record {
+  built = c.units_are_built.ensures c.args.list.now c.in-Some.unit c.requires.short (omega (arith, ap length c.items.ensures)) (unit_told c.args.list.now c.in_ok-unit.field-0 c.in-Some.unit c.in-Some.is c.in_ok-unit.ensures);
+}
 
 pub returns-in-None-clause-cause : goal.returns-in-None-clause-cause
 returns-in-None-clause-cause c = elim c.unbuilt-in-None.ensures [ inl e ↦ inr (e, inl (none_told c.args.list.now c.in_ok-unit.field-0 c.in-None.is c.in_ok-unit.ensures)) | inr e ↦ inl e ]
