@@ -1,8 +1,12 @@
 pub mod Files
 pub mod Literals
+pub mod LeafAsserted
+pub mod LeafOpened
 pub mod Rows
-pub mod Visible
 pub mod Statements
+pub mod CycleArms
+pub mod CycleBranches
+pub mod CycleTrees
 pub mod Arms
 pub mod Tables
 pub mod Sums

@@ -1,5 +1,5 @@
 -- Rows that are not empty.
-use Rattle.std.proofs.Common.{◌≡◌, ℕ, ◌≤◌, List, [], ◌∷◌, length, map, false, None, refl, ap, ◌∙◌, arith, rules}
+use Rattle.std.proofs.Common.{◌≡◌, ℕ, ◌≤◌, List, [], ◌∷◌, length, map, false, None, refl, ap, ◌∙◌, arith}
 use Rattle.std.proofs.lemmas.List.{length-map}
 use Rattle.std.specs.Prelude.{fold}
 use Rattle.cx_syntax.specs.Tree as tree
@@ -10,6 +10,7 @@ use Rattle.cx_syntax.specs.declared.tree.function.Spec.{Spec}
 use Rattle.cx_syntax.specs.declared.tree.item.Item.{Item}
 use Rattle.cx_syntax.specs.View.{another_of, expr_of, item_of, items_of, several_of, specs_of, stars_of, with_expr, with_item, with_spec, with_star}
 use Rattle.cx_includes.specs.declared.assembled.Assembled.{Assembled}
+use Rattle.cx_front.proofs.LeafOpened.{opened-several}
 use Rattle.cx_front.specs.Front.{Names, argument_in, has_no_specs, has_no_stars, statements_in}
 
 more_stars : (s : Stars) (list : List Star) → has_no_stars s ≡ false → has_no_stars (fold with_star s list) ≡ false
@@ -47,10 +48,7 @@ pub several_arguments : (list : Assembled) (names : Names) (i j : ℕ) (s : Seve
 several_arguments list names i j s [] some = absurd (omega arith)
 several_arguments list names i j s (x ∷ more) some = no_one list names i j s x.0 x.1 more
 
-several_fold : (s : Rows) → several_of s ≡ fold with_expr (one (expr_of (out-Several s).first.value)) (map another_of (out-Several s).more.items)
-several_fold s = search rules
-
 pub more_than_one : (list : Assembled) (names : Names) (i j : ℕ) (s : Rows) → 1 ≤ length (out-Several s).more.items → argument_in list names (args i (several_of s) j) ≡ None
 more_than_one list names i j s some =
-    ap (λ (t : Several). argument_in list names (args i t j)) (several_fold s)
+    ap (λ (t : Several). argument_in list names (args i t j)) (opened-several s)
     ∙ several_arguments list names i j (one (expr_of (out-Several s).first.value)) (map another_of (out-Several s).more.items) (omega (arith, length-map (out-Several s).more.items another_of))

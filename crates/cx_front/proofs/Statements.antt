@@ -1,5 +1,5 @@
 -- The statements of a tree, one after another, and the tables of their assertions.
-use Rattle.std.proofs.Common.{◌≡◌, ℕ, ◌+◌, ◌<◌, Bool, true, false, List, [], ◌∷◌, ◌++◌, Option, Some, None, zero, suc, length, get_or, map, take, drop, refl, sym, ap, ◌∙◌, arith, append_assoc, append-nil, length-append}
+use Rattle.std.proofs.Common.{◌≡◌, ℕ, ◌+◌, ◌<◌, Bool, true, false, List, [], ◌∷◌, ◌++◌, Option, Some, None, zero, suc, length, get_or, map, take, drop, refl, sym, ap, ◌∙◌, subst, arith, append_assoc, append-nil, length-append}
 use Rattle.std.specs.Prelude.{◌&&◌, fold, slice_get}
 use Rattle.std.proofs.lemmas.List.{map-append, take_at, take-append-drop, take_more}
 use Rattle.std.proofs.lemmas.List.Sums.{fold-append}
@@ -19,7 +19,7 @@ use Rattle.cx_core.specs.Numbered.{Numbers}
 use Rattle.cx_front.specs.Core.{Tells}
 use Rattle.cx_front.specs.declared.names.Slot.{Slot}
 use Rattle.cx_front.specs.Front.{Names, Typed, all_assertions_in, assertions_in, both, declared_in, found, if_of, initialised_in, is_declaration, is_new, may_name, names_after, names_behind, of_type, only_if, stmt_in, stmts_in, type_in, with_last, with_typed_name, word_at}
-use Rattle.cx_front.specs.Made.{names_with}
+use Rattle.cx_front.specs.Made.{Told, names_with}
 
 -- ---- trees
 
@@ -140,6 +140,47 @@ module _ (list : Assembled) where
   spoilt semantic ordinal base names front more none =
       let same : stmts_of (front ++ more) ≡ fold more_stmts (stmts_of front) (map stmt_of more) = ap stmt_list (map-append stmt_of front more) ∙ fold-append more_stmts no_stmts (map stmt_of front) (map stmt_of more) in
       ap (stmts_in semantic list ordinal base names) same ∙ none_behind semantic ordinal base names (stmts_of front) (map stmt_of more) none
+
+  -- ---- a loop over statements
+
+  module _ (base : ℕ) (names visible : Names) (table front : List Assertion) (all : List Stmt) (i : ℕ) (x : Stmt) where
+    pub step_stands : (n : Numbers) (semantic : Semantic) (more : List Assertion) (told next : List Statement) (s : Statement) → i < length all → x ≡ get_or all i x
+        → front ≡ table ++ all_assertions_in list (length table + 1) (stmts_of (take i all)) → visible ≡ names_after names (stmts_of (take i all))
+        → more ≡ front ++ assertions_in list (length front + 1) (stmt_of x) → next ≡ told ++ s ∷ []
+        → (Told n semantic front → Some (view.stmts_of n told) ≡ stmts_in semantic list (length table + 1) base names (stmts_of (take i all)))
+        → Some (view.stmt_of n s) ≡ stmt_in semantic list (length front + 1) base visible (stmt_of x) → Told n semantic more
+        → Some (view.stmts_of n next) ≡ stmts_in semantic list (length table + 1) base names (stmts_of (take (i + 1) all))
+    step_stands n semantic more told next s lt is at_front seen at_more pushed of_front of_last holds =
+        let before : Told n semantic front = record { tells = tells_front n semantic front (assertions_in list (length front + 1) (stmt_of x)) (subst (λ (t : List Assertion). Tells n semantic t) at_more holds.tells) } in
+        ap (λ (l : List Statement). Some (view.stmts_of n l)) pushed
+        ∙ ap (λ (l : Stmts'). Some l) (made_more n told s)
+        ∙ sym (stands_more n semantic base names visible table front (stmts_of (take i all)) (stmt_of x) (Some (view.stmts_of n told)) (Some (view.stmt_of n s)) at_front seen (sym (of_front before)) (sym of_last))
+        ∙ ap (stmts_in semantic list (length table + 1) base names) (sym (stmts_more all i x lt is))
+
+    pub step_table : (more : List Assertion) → i < length all → x ≡ get_or all i x → front ≡ table ++ all_assertions_in list (length table + 1) (stmts_of (take i all))
+        → more ≡ front ++ assertions_in list (length front + 1) (stmt_of x) → more ≡ table ++ all_assertions_in list (length table + 1) (stmts_of (take (i + 1) all))
+    step_table more lt is at_front at_more =
+        table_more table front more (stmts_of (take i all)) (stmt_of x) at_front at_more
+        ∙ ap (λ (b : Stmts). table ++ all_assertions_in list (length table + 1) b) (sym (stmts_more all i x lt is))
+
+    pub step_visible : (behind : Names) → i < length all → x ≡ get_or all i x → visible ≡ names_after names (stmts_of (take i all)) → behind ≡ names_behind visible (stmt_of x)
+        → behind ≡ names_after names (stmts_of (take (i + 1) all))
+    step_visible behind lt is seen last =
+        last ∙ ap (λ (v : Names). names_behind v (stmt_of x)) seen ∙ ap (names_after names) (sym (stmts_more all i x lt is))
+
+    -- a statement that isn't built is among them
+    pub stops : (n : Numbers) (semantic : Semantic) → i < length all → x ≡ get_or all i x
+        → front ≡ table ++ all_assertions_in list (length table + 1) (stmts_of (take i all)) → visible ≡ names_after names (stmts_of (take i all))
+        → None ≡ stmt_in semantic list (length front + 1) base visible (stmt_of x)
+        → None ≡ stmts_in semantic list (length table + 1) base names (stmts_of all)
+    stops n semantic lt is at_front seen none =
+        let b : Stmts = stmts_of (take i all) in
+        let here : stmts_in semantic list (length table + 1) base names (stmts_of (take (i + 1) all)) ≡ None =
+            ap (stmts_in semantic list (length table + 1) base names) (stmts_more all i x lt is)
+            ∙ stands_more n semantic base names visible table front (stmts_of (take i all)) (stmt_of x) (stmts_in semantic list (length table + 1) base names (stmts_of (take i all))) None at_front seen refl (sym none)
+            ∙ both_none with_last (stmts_in semantic list (length table + 1) base names (stmts_of (take i all))) in
+        sym (ap (λ (l : List Stmt). stmts_in semantic list (length table + 1) base names (stmts_of l)) (sym (take-append-drop (i + 1) all))
+        ∙ spoilt semantic (length table + 1) base names (take (i + 1) all) (drop (i + 1) all) here)
 
 -- ---- a declaration
 

@@ -9,7 +9,7 @@ size file = length file.text
 
 size_more : (files : List SourceFile) (k : ℕ) (text : List ℕ) → k < length files → IfSome (slice_get files k) (λ (source : SourceFile). text ≡ source.text) → sum_by size (take (suc k) files) ≡ sum_by size (take k files) + length text
 size_more [] k text lt is = absurd (omega arith)
-size_more (x ∷ xs) zero text lt is = sym (ap length is)
+size_more (x ∷ xs) zero text lt is = omega (arith, ap length is, sum_by-cons size x [])
 size_more (x ∷ xs) (suc k) text lt is =
     let more : sum_by size (take (suc k) xs) ≡ sum_by size (take k xs) + length text = size_more xs k text (omega arith) is in
     omega (arith, more, sum_by-cons size x (take (suc k) xs), sum_by-cons size x (take k xs))

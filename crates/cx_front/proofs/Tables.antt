@@ -1,5 +1,5 @@
 -- Numbers of a program under which each assertion of a table is evaluated under a semantic.
-use Rattle.std.proofs.Common.{◌≡◌, ℕ, true, List, [], Option, Some, None, ap}
+use Rattle.std.proofs.Common.{ℕ, true, List, [], Option, Some, None, ap}
 use Rattle.std.specs.Prelude.{slice_get}
 use Rattle.cx_core.specs.declared.unit.Assertion.{Assertion}
 use Rattle.cx_core.specs.declared.unit.CoreUnit.{CoreUnit}

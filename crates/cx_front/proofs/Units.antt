@@ -1,52 +1,24 @@
 -- The unit of the only tree of a list.
-use Rattle.std.proofs.Common.{◌≡◌, ℕ, ◌+◌, true, false, List, [], ◌∷◌, ◌++◌, Option, Some, None, length, refl, sym, ap, ◌∙◌, subst}
+use Rattle.std.proofs.Common.{◌≡◌, ◌+◌, true, false, List, [], ◌++◌, Option, Some, None, length, refl, sym, ap, ◌∙◌, subst}
 use Rattle.std.specs.Prelude.{Result, Ok, Err, IfOk, MatchOption, OnSome}
-use Rattle.std.specs.List.{All}
 use Rattle.std.proofs.lemmas.List.{length-map}
-use Rattle.std.proofs.lemmas.List.Elements.{All-nil, All-cons}
 use Rattle.cx_syntax.specs.Tree.{Stmts, UnitTree}
 use Rattle.cx_syntax.specs.Spell.{Marks}
-use Rattle.cx_syntax.specs.Place.{IsPlace, IsTree}
+use Rattle.cx_syntax.specs.Place.{IsTree}
 use Rattle.cx_includes.specs.declared.assembled.Assembled.{Assembled}
 use Rattle.cx_marks.proofs.Steps.{marks_length}
 use Rattle.cx_faults.specs.Faults.{marks_of, tokens_of, token_at}
 use Rattle.cx_core.specs.declared.unit.Assertion.{Assertion}
 use Rattle.cx_core.specs.declared.unit.CoreUnit.{CoreUnit}
-use Rattle.cx_core.specs.declared.unit.Function.{Function}
 use Rattle.cx_core.specs.declared.statement.Statement.{Statement}
 use Rattle.cx_core.specs.Words.{Semantic, Ignore}
-
 use Rattle.cx_core.specs.Numbered as view
 use Rattle.cx_core.specs.Numbered.{Numbers}
 use Rattle.cx_typed.specs.Unit.{unit_numbers}
 use Rattle.cx_front.specs.Core.{Tells}
-use Rattle.cx_front.specs.Front.{Names, DeclaresMain, all_assertions_in, body_in, bytes_of, has_short_tokens, name_of_file, statements_in, stmts_in, table_in, IsUnitOf}
-use Rattle.cx_front.specs.Made.{IsMain, IsUnitWith, MadeOf, MadeUnit, Told}
+use Rattle.cx_front.specs.Front.{Names, all_assertions_in, body_in, has_short_tokens, statements_in, stmts_in, table_in, IsUnitOf}
+use Rattle.cx_front.specs.Made.{IsUnitWith, MadeOf, MadeUnit, Told}
 use Rattle.cx_front.proofs.Tables.{some_numbers, some_tell, tells_unit}
-
--- ---- the unit of `main`
-
-pub unit_of_main : (list : Assembled) (statements : List Statement) (main : Function) (unit : CoreUnit) → IsMain statements main → DeclaresMain list main → unit.functions ≡ main ∷ []
-    → unit.classes ≡ [] → unit.globals ≡ [] → unit.calls ≡ [] → unit.name ≡ name_of_file list 0 → unit.tokens ≡ length list.placed → unit.bytes ≡ bytes_of list → IsUnitWith list statements unit
-unit_of_main list statements main unit is declares alone no_classes no_globals no_calls name tokens bytes = record {
-  alone = record {
-    no_classes = no_classes;
-    no_globals = no_globals;
-    main = main;
-    alone = alone;
-    is_named = is.is_named;
-    may_throw = is.may_throw;
-    gives_status = is.gives_status;
-    no_preconditions = is.no_preconditions;
-    no_postconditions = is.no_postconditions;
-    is_defined = is.is_defined;
-  };
-  declares = subst (λ (l : List Function). All (DeclaresMain list) l) (sym alone) (All-cons (DeclaresMain list) main [] declares (All-nil (DeclaresMain list)));
-  name = name;
-  no_calls = no_calls;
-  tokens = tokens;
-  bytes = bytes;
-}
 
 -- ---- statements in a body
 
@@ -143,9 +115,3 @@ pub tree_answer : {E : Type 0} (list : Assembled) (marks : Marks) (tree : UnitTr
     → IfOk r (λ told. MatchOption told ((unit : CoreUnit) → MadeUnit list tree unit → ⊥) (MadeUnit list tree)) → IfOk r (λ told. MatchOption told ((unit : CoreUnit) → IsUnitOf list unit → ⊥) (IsUnitOf list))
 tree_answer list marks tree (Ok told) same is made = of_tree list marks tree told same is made
 tree_answer list marks tree (Err e) same is made = made
-
--- a list that isn't grammatical is no unit
-pub no_tree : (list : Assembled) (marks : Marks) (place : ℕ) → marks ≡ marks_of list → IsPlace marks place → (unit : CoreUnit) → IsUnitOf list unit → ⊥
-no_tree list marks place same is unit other =
-    let its : IsPlace (marks_of list) place = subst (λ (ts : Marks). IsPlace ts place) same is in
-    its.0 (other.tree, other.is_tree.0, other.is_tree.1)

@@ -1,16 +1,19 @@
-ghost use Rattle.std.specs.Prelude.{◌≡◌, ◌+◌, ◌++◌, IfOk, OnSome, codes, length, slice_get};
+ghost use Rattle.std.specs.Prelude.{◌≡◌, ◌+◌, ◌∷◌, ◌++◌, [], IfOk, IfSome, OnSome, codes, length, slice_get};
 ghost use Rattle.std.specs.Fmt.{decimal};
 ghost use Rattle.std.specs.List.{All};
 ghost use Rattle.cx_includes.specs.Assembled.{IsWithin};
 ghost use Rattle.cx_syntax.specs.View.{expr_of};
-ghost use Rattle.cx_core.specs.Numbered.{stmt_of};
-ghost use Rattle.cx_front.specs.Front.{entries, entry_at};
+ghost use Rattle.cx_core.specs.Numbered.{Numbers, stmt_of};
+ghost use Rattle.cx_core.specs.Tree.{contract_assert};
+ghost use Rattle.cx_front.specs.Core.{typed_of};
+ghost use Rattle.cx_front.specs.Front.{as_condition, entries, entry_at, name_of_file};
 ghost use Rattle.cx_front.specs.Made.{StandsFor, is_asserted};
 
 use crate::comment::comment_in;
 use crate::expression::expr_in;
 use crate::names::{Variable, number_of};
 use crate::operand::as_condition;
+use crate::typed::TypedExpression;
 use cx_code::AssertionKind;
 use cx_core::{Assertion, Statement};
 use cx_includes::{Assembled, Placed};
@@ -35,12 +38,10 @@ pub fn asserted_in(
 {
     let told = expr_in(alloc, list, names, predicate)?;
     match told {
-        Some(told) => match list.items().get(at as usize) {
+        Some(told) => match placed_at(list, at) {
             Some(word) => {
-                let index = number_of(assertions.items().len())?;
-                let entry = entry_at(alloc, list, index, word, predicate)?;
-                assertions.push(entry)?;
-                Ok(Some(Statement::ContractAssert(index, as_condition(told))))
+                let index = entry_added(alloc, list, assertions, word, predicate)?;
+                Ok(Some(contract_assert(index, told)))
             }
             None => Ok(None),
         },
@@ -48,26 +49,72 @@ pub fn asserted_in(
     }
 }
 
+/// The token at a place with its own place in its file, if there is one.
+fn placed_at(list: &Assembled, at: u32) -> Option<Placed>
+    requires { All (IsWithin list.now.files) list.now.placed }
+    ensures is { result ≡ slice_get list.now.placed at }
+    ensures within { IfSome result (IsWithin list.now.files) }
+{
+    match list.items().get(at as usize) {
+        Some(word) => Some(*word),
+        None => None,
+    }
+}
+
+/// The assertion statement of the assertion that has this index in the table.
+fn contract_assert(index: u32, predicate: TypedExpression) -> Statement
+    ensures { (n : Numbers) → stmt_of n result ≡ contract_assert (n.assertion index (as_condition (typed_of n predicate))) }
+{
+    Statement::ContractAssert(index, as_condition(predicate))
+}
+
+/// Adds an assertion to the table, and tells its index there. It stands where its word does.
+fn entry_added(
+    alloc: Global,
+    list: &Assembled,
+    assertions: &mut Items<Assertion>,
+    word: Placed,
+    predicate: &Expr,
+) -> Result<u32, NoMemory>
+    requires within { All (IsWithin list.now.files) list.now.placed }
+    requires word { IsWithin list.now.files word }
+    ensures index { IfOk result (λ index. index ≡ length assertions.old) }
+    ensures added { IfOk result (λ index. assertions.new ≡ assertions.old ++ entry_at list.now (length assertions.old + 1) word (expr_of predicate.now) ∷ []) }
+{
+    let index = number_of(assertions.items().len())?;
+    let entry = entry_at(alloc, list, index, word, predicate)?;
+    assertions.push(entry)?;
+    Ok(index)
+}
+
 /// The assertion that has this index in the table. It stands where its word does.
 fn entry_at(
     alloc: Global,
     list: &Assembled,
     index: u32,
-    word: &Placed,
+    word: Placed,
     predicate: &Expr,
 ) -> Result<Assertion, NoMemory>
     requires within { All (IsWithin list.now.files) list.now.placed }
-    requires word { IsWithin list.now.files word.now }
-    ensures { IfOk result (λ entry. entry ≡ entry_at list.now (index + 1) word.now (expr_of predicate.now)) }
+    requires word { IsWithin list.now.files word }
+    ensures { IfOk result (λ entry. entry ≡ entry_at list.now (index + 1) word (expr_of predicate.now)) }
 {
     Ok(Assertion {
         kind: AssertionKind::Assert,
         name: name_of(alloc, u64::from(index) + 1)?,
-        file: Text::copy_of(alloc, list.file_name(word.file))?,
+        file: Text::copy_of(alloc, name_of_file(list, word))?,
         line: word.line,
         column: word.column,
         comment: comment_in(alloc, list, predicate)?,
     })
+}
+
+/// The name of the file that a token stands in.
+fn name_of_file(list: &Assembled, word: Placed) -> &[u8]
+    requires { IsWithin list.now.files word }
+    ensures { result.now ≡ name_of_file list.now word.file }
+{
+    list.file_name(word.file)
 }
 
 /// The name of the assertion that has this ordinal in `main`, from 1. This project's own.

@@ -41,7 +41,10 @@ fn add_words(list: &Assembled, words: &mut Text, tree: &Expr) -> Result<(), NoMe
     match tree {
         Expr::Leaf { at, .. } => add_word(list, words, *at),
         Expr::Paren {
-            at, inner, close, ..
+            at,
+            inner,
+            close,
+            ..
         } => {
             add_word(list, words, *at)?;
             add_words(list, words, inner)?;

@@ -5,7 +5,7 @@ ghost use Rattle.cx_syntax.specs.View.{args_of, expr_of, several_of};
 ghost use Rattle.cx_syntax.specs.Tree.{args};
 ghost use Rattle.cx_core.specs.Numbered.{Numbers, stmt_of};
 ghost use Rattle.cx_front.specs.Core.{typed_of};
-ghost use Rattle.cx_front.specs.Front.{argument_in, assigned, both, discarded_in, expr_in, is_after, is_assign, is_putchar, target_in, written};
+ghost use Rattle.cx_front.specs.Front.{argument_in, assigned, both, discarded_in, expr_in, is_after, is_assign, is_putchar, only_if, target_in, written};
 
 use crate::expression::expr_in;
 use crate::names::{Slot, Variable, found};
@@ -32,23 +32,16 @@ pub fn discarded_in(
 {
     match tree {
         Expr::Assign {
-            left, punct, right, ..
-        } => {
-            if is_assign(*punct) {
-                assigned_in(alloc, list, names, left, right)
-            } else {
-                Ok(None)
-            }
-        }
+            left,
+            punct,
+            right,
+            ..
+        } => assignment_in(alloc, list, names, left, *punct, right),
         Expr::Call {
-            callee, arguments, ..
-        } => {
-            if is_putchar(list, callee) {
-                written_in(alloc, list, names, arguments)
-            } else {
-                Ok(None)
-            }
-        }
+            callee,
+            arguments,
+            ..
+        } => call_in(alloc, list, names, callee, arguments),
         Expr::Leaf { .. } => Ok(None),
         Expr::Paren { .. } => Ok(None),
         Expr::Temporary { .. } => Ok(None),
@@ -61,6 +54,43 @@ pub fn discarded_in(
         Expr::Unary { .. } => Ok(None),
         Expr::Binary { .. } => Ok(None),
         Expr::Choose { .. } => Ok(None),
+    }
+}
+
+/// An expression with an assignment operator, if that is `=` and both sides are built.
+fn assignment_in(
+    alloc: Global,
+    list: &Assembled,
+    names: &[Variable],
+    left: &Expr,
+    punct: Punct,
+    right: &Expr,
+) -> Result<Option<Statement>, NoMemory>
+    requires { All (IsWithin list.now.files) list.now.placed }
+    ensures { IfOk result (λ told. (n : Numbers) → option_map (stmt_of n) told ≡ only_if (is_assign punct) (both assigned (target_in names.now (expr_of left.now)) (expr_in list.now names.now (expr_of right.now)))) }
+{
+    if is_assign(punct) {
+        assigned_in(alloc, list, names, left, right)
+    } else {
+        Ok(None)
+    }
+}
+
+/// A call, if it is of `putchar` and its argument is built.
+fn call_in(
+    alloc: Global,
+    list: &Assembled,
+    names: &[Variable],
+    callee: &Expr,
+    arguments: &Args,
+) -> Result<Option<Statement>, NoMemory>
+    requires { All (IsWithin list.now.files) list.now.placed }
+    ensures { IfOk result (λ told. (n : Numbers) → option_map (stmt_of n) told ≡ only_if (is_putchar list.now (expr_of callee.now)) (option_map written (argument_in list.now names.now (args_of arguments.now)))) }
+{
+    if is_putchar(list, callee) {
+        written_in(alloc, list, names, arguments)
+    } else {
+        Ok(None)
     }
 }
 
@@ -148,9 +178,7 @@ fn assigned(
             Some(value) => {
                 let place = Box::new(alloc, Expression::Variable(target.slot))?;
                 let value = Box::new(alloc, as_type(target.of, value))?;
-                Ok(Some(Statement::Expression(Expression::Assign(
-                    place, value,
-                ))))
+                Ok(Some(Statement::Expression(Expression::Assign(place, value))))
             }
             None => Ok(None),
         },
@@ -235,10 +263,7 @@ fn only_of(
 }
 
 /// A call of `putchar`, where its argument is there.
-fn written(
-    alloc: Global,
-    value: Option<TypedExpression>,
-) -> Result<Option<Statement>, NoMemory>
+fn written(alloc: Global, value: Option<TypedExpression>) -> Result<Option<Statement>, NoMemory>
     ensures { IfOk result (λ told. (n : Numbers) → option_map (stmt_of n) told ≡ option_map written (option_map (typed_of n) value)) }
 {
     match value {

@@ -3,9 +3,10 @@ ghost use Rattle.std.specs.List.{All};
 ghost use Rattle.cx_includes.specs.Assembled.{IsWithin};
 ghost use Rattle.cx_syntax.specs.View.{expr_of, stmt_of, stmts_of};
 ghost use Rattle.cx_core.specs.Tree.{block, empty};
-ghost use Rattle.cx_core.specs.Numbered.{stmt_of as core_of, stmts_of as cores_of};
+ghost use Rattle.cx_core.specs.Numbered.{Numbers, stmt_of as core_of, stmts_of as cores_of};
+ghost use Rattle.cx_core.specs.Words.{Semantic};
 ghost use Rattle.cx_front.specs.Front.{all_assertions_in, assertions_in, both, expr_in, if_of, names_after, names_behind, stmt_in, stmts_in, while_of};
-ghost use Rattle.cx_front.specs.Made.{StandsFor, branch_in};
+ghost use Rattle.cx_front.specs.Made.{StandsFor, Told, branch_in};
 
 use crate::assertion::asserted_in;
 use crate::choice::{if_alone, if_else, while_loop};
@@ -63,16 +64,19 @@ pub fn statement_in(
         Stmt::Declare { local, .. } => declared_in(alloc, list, base, names, local),
         Stmt::Branch {
             condition, body, ..
-        } => if_alone_in(alloc, list, names, assertions, condition, body),
+        } => if_alone_in(alloc, list, names, assertions, body, condition),
         Stmt::Branches {
             condition,
             body,
             other_body,
             ..
-        } => if_else_in(alloc, list, names, assertions, condition, body, other_body),
+        } => match branch_in(alloc, list, names, assertions, body)? {
+            Some(body) => else_in(alloc, list, names, assertions, other_body, condition, body),
+            None => Ok(None),
+        },
         Stmt::While {
             condition, body, ..
-        } => while_in(alloc, list, names, assertions, condition, body),
+        } => while_in(alloc, list, names, assertions, body, condition),
         Stmt::Return { value, .. } => returned_in(alloc, list, names.as_slice(), value),
         Stmt::Assert { at, predicate, .. } => {
             asserted_in(alloc, list, names.as_slice(), assertions, *at, predicate)
@@ -114,8 +118,8 @@ fn if_alone_in(
     list: &Assembled,
     names: &mut Vec<Variable>,
     assertions: &mut Items<Assertion>,
-    condition: &Expr,
     body: &Stmt,
+    condition: &Expr,
 ) -> Result<Option<Statement>, NoMemory>
     requires { All (IsWithin list.now.files) list.now.placed }
     ensures stands { IfOk result (StandsFor core_of assertions.new (λ semantic. if_of (expr_in list.now names.old.items (expr_of condition.now)) (branch_in semantic list.now (length assertions.old + 1) names.old.items (stmt_of body.now)) (Some empty))) }
@@ -130,32 +134,27 @@ fn if_alone_in(
     }
 }
 
-/// `if` with `else`, if its parts are built [stmt.if].
+/// What stands behind the first branch of an `if` that is made: `else` and its branch, if they are built [stmt.if].
 #[cycle(statement)]
-fn if_else_in(
+fn else_in(
     alloc: Global,
     list: &Assembled,
     names: &mut Vec<Variable>,
     assertions: &mut Items<Assertion>,
-    condition: &Expr,
-    body: &Stmt,
     other: &Stmt,
+    condition: &Expr,
+    body: Statement,
 ) -> Result<Option<Statement>, NoMemory>
     requires { All (IsWithin list.now.files) list.now.placed }
-    ensures stands { IfOk result (StandsFor core_of assertions.new (λ semantic. if_of (expr_in list.now names.old.items (expr_of condition.now)) (branch_in semantic list.now (length assertions.old + 1) names.old.items (stmt_of body.now)) (branch_in semantic list.now (length assertions.old + 1 + length (assertions_in list.now (length assertions.old + 1) (stmt_of body.now))) names.old.items (stmt_of other.now)))) }
+    ensures stands { IfOk result (λ told. (n : Numbers) (semantic : Semantic) → Told n semantic assertions.new →
+        option_map (core_of n) told ≡ if_of (expr_in list.now names.old.items (expr_of condition.now)) (Some (core_of n body)) (branch_in semantic list.now (length assertions.old + 1) names.old.items (stmt_of other.now))) }
     ensures visible { IfOk result (λ told. OnSome told (names.new.items ≡ names.old.items)) }
-    ensures added { IfOk result (λ told. OnSome told (assertions.new ≡ assertions.old ++ (assertions_in list.now (length assertions.old + 1) (stmt_of body.now) ++ assertions_in list.now (length assertions.old + 1 + length (assertions_in list.now (length assertions.old + 1) (stmt_of body.now))) (stmt_of other.now)))) }
+    ensures added { IfOk result (λ told. OnSome told (assertions.new ≡ assertions.old ++ assertions_in list.now (length assertions.old + 1) (stmt_of other.now))) }
 {
     let condition = expr_in(alloc, list, names.as_slice(), condition)?;
-    let first = branch_in(alloc, list, names, assertions, body)?;
-    match first {
-        Some(body) => {
-            let second = branch_in(alloc, list, names, assertions, other)?;
-            match second {
-                Some(other) => if_else(alloc, condition, body, other),
-                None => Ok(None),
-            }
-        }
+    let told = branch_in(alloc, list, names, assertions, other)?;
+    match told {
+        Some(other) => if_else(alloc, condition, body, other),
         None => Ok(None),
     }
 }
@@ -168,8 +167,8 @@ fn while_in(
     list: &Assembled,
     names: &mut Vec<Variable>,
     assertions: &mut Items<Assertion>,
-    condition: &Expr,
     body: &Stmt,
+    condition: &Expr,
 ) -> Result<Option<Statement>, NoMemory>
     requires { All (IsWithin list.now.files) list.now.placed }
     ensures stands { IfOk result (StandsFor core_of assertions.new (λ semantic. both while_of (expr_in list.now names.old.items (expr_of condition.now)) (branch_in semantic list.now (length assertions.old + 1) names.old.items (stmt_of body.now)))) }

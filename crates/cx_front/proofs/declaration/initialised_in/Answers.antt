@@ -1,8 +1,7 @@
-use Rattle.std.proofs.Common.{◌≡◌, List, [], ◌∷◌, ◌++◌, length, sym, ap, ◌∙◌, arith}
+use Rattle.std.proofs.Common.{◌≡◌, [], ◌∷◌, ◌++◌, length, sym, ap, ◌∙◌, arith}
 use Rattle.std.specs.Prelude.{option_map}
 use Rattle.cx_syntax.specs.declared.tree.statement.Init.{Init}
 use Rattle.cx_syntax.specs.View.{expr_of, init_of}
-use Rattle.cx_front.specs.Core.{typed_of}
 use Rattle.cx_front.specs.Front.{Names, declared, expr_in, initialised_in}
 use Rattle.cx_front.proofs.declaration.initialised_in.Goals as goal
 

@@ -1,6 +1,6 @@
 use Rattle.std.proofs.Common.{length, ap, ◌∙◌, arith}
 use Rattle.cx_syntax.specs.View as view
-use Rattle.cx_front.proofs.Units.{length_marks, no_tree, tree_answer}
+use Rattle.cx_front.proofs.Units.{length_marks, tree_answer}
 use Rattle.cx_front.proofs.front.unit_of.Goals as goal
 
 pub parse-requires : goal.parse-requires

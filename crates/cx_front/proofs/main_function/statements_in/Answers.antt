@@ -1,4 +1,4 @@
-use Rattle.std.proofs.Common.{length, sym, ap, arith}
+use Rattle.std.proofs.Common.{length, ap, arith}
 use Rattle.cx_front.proofs.Rows.{several}
 use Rattle.cx_front.proofs.main_function.statements_in.Goals as goal
 
