@@ -30,7 +30,6 @@ stands_always view table given wanted (Ok told) same stands = λ n semantic hold
 stands_always view table given wanted (Err e) same stands = stands
 
 module _ {E : Type 0} (list : Assembled) (ordinal base : ℕ) (names : Names) (table : List Assertion) (tree : Stmt) (r : Result (Option Statement) E) where
-
   abbrev pub Stands : Type 0
   Stands = IfOk r (StandsFor view.stmt_of table (λ semantic. stmt_in semantic list ordinal base names (stmt_of tree)))
 
@@ -39,33 +38,33 @@ module _ {E : Type 0} (list : Assembled) (ordinal base : ℕ) (names : Names) (t
   unfolding stmt_in
   arm-compound b inside is at stands =
       stands_same view.stmt_of table (λ semantic. option_map core.block (stmts_in semantic list ordinal (length names) names (stmts_of inside))) (λ semantic. stmt_in semantic list ordinal base names (stmt_of tree)) r
-        (λ semantic. ap (λ (l : List Stmt). option_map core.block (stmts_in semantic list ordinal (length names) names (stmts_of l))) at ∙ sym (ap (λ (t : Stmt). stmt_in semantic list ordinal base names (stmt_of t)) is ∙ ap (stmt_in semantic list ordinal base names) (opened-compound b))) stands
+      (λ semantic. ap (λ (l : List Stmt). option_map core.block (stmts_in semantic list ordinal (length names) names (stmts_of l))) at ∙ sym (ap (λ (t : Stmt). stmt_in semantic list ordinal base names (stmt_of t)) is ∙ ap (stmt_in semantic list ordinal base names) (opened-compound b))) stands
 
   pub arm-evaluate : (e : Expr) (i : ℕ) (seen : Names) → tree ≡ rust.Evaluate e i → seen ≡ names → IfOk r (λ told. (n : Numbers) → option_map (view.stmt_of n) told ≡ discarded_in list seen (expr_of e)) → Stands
   unfolding stmt_in
   arm-evaluate e i seen is same stands =
       stands_always view.stmt_of table (discarded_in list seen (expr_of e)) (λ semantic. stmt_in semantic list ordinal base names (stmt_of tree)) r
-        (λ semantic. ap (λ (v : Names). discarded_in list v (expr_of e)) same ∙ sym (ap (λ (t : Stmt). stmt_in semantic list ordinal base names (stmt_of t)) is ∙ ap (stmt_in semantic list ordinal base names) (opened-evaluate e i))) stands
+      (λ semantic. ap (λ (v : Names). discarded_in list v (expr_of e)) same ∙ sym (ap (λ (t : Stmt). stmt_in semantic list ordinal base names (stmt_of t)) is ∙ ap (stmt_in semantic list ordinal base names) (opened-evaluate e i))) stands
 
   pub arm-declare : (l : Local) (i : ℕ) → tree ≡ rust.Declare l i → IfOk r (λ told. (n : Numbers) → option_map (view.stmt_of n) told ≡ declared_in list base names (local_of l)) → Stands
   unfolding stmt_in
   arm-declare l i is stands =
       stands_always view.stmt_of table (declared_in list base names (local_of l)) (λ semantic. stmt_in semantic list ordinal base names (stmt_of tree)) r
-        (λ semantic. sym (ap (λ (t : Stmt). stmt_in semantic list ordinal base names (stmt_of t)) is ∙ ap (stmt_in semantic list ordinal base names) (opened-declare l i))) stands
+      (λ semantic. sym (ap (λ (t : Stmt). stmt_in semantic list ordinal base names (stmt_of t)) is ∙ ap (stmt_in semantic list ordinal base names) (opened-declare l i))) stands
 
   pub arm-branch : (i j : ℕ) (c : Expr) (k : ℕ) (t : Box Stmt Global) (body : Stmt) → tree ≡ rust.Branch i j c k t → body ≡ t.value
       → IfOk r (StandsFor view.stmt_of table (λ semantic. if_of (expr_in list names (expr_of c)) (branch_in semantic list ordinal names (stmt_of body)) (Some core.empty))) → Stands
   unfolding stmt_in
   arm-branch i j c k t body is at stands =
       stands_same view.stmt_of table (λ semantic. if_of (expr_in list names (expr_of c)) (branch_in semantic list ordinal names (stmt_of body)) (Some core.empty)) (λ semantic. stmt_in semantic list ordinal base names (stmt_of tree)) r
-        (λ semantic. ap (λ (s : Stmt). if_of (expr_in list names (expr_of c)) (branch_in semantic list ordinal names (stmt_of s)) (Some core.empty)) at ∙ sym (ap (λ (t : Stmt). stmt_in semantic list ordinal base names (stmt_of t)) is ∙ ap (stmt_in semantic list ordinal base names) (opened-branch i j c k t))) stands
+      (λ semantic. ap (λ (s : Stmt). if_of (expr_in list names (expr_of c)) (branch_in semantic list ordinal names (stmt_of s)) (Some core.empty)) at ∙ sym (ap (λ (t : Stmt). stmt_in semantic list ordinal base names (stmt_of t)) is ∙ ap (stmt_in semantic list ordinal base names) (opened-branch i j c k t))) stands
 
   pub arm-while : (i j : ℕ) (c : Expr) (k : ℕ) (t : Box Stmt Global) (body : Stmt) → tree ≡ rust.While i j c k t → body ≡ t.value
       → IfOk r (StandsFor view.stmt_of table (λ semantic. both while_of (expr_in list names (expr_of c)) (branch_in semantic list ordinal names (stmt_of body)))) → Stands
   unfolding stmt_in
   arm-while i j c k t body is at stands =
       stands_same view.stmt_of table (λ semantic. both while_of (expr_in list names (expr_of c)) (branch_in semantic list ordinal names (stmt_of body))) (λ semantic. stmt_in semantic list ordinal base names (stmt_of tree)) r
-        (λ semantic. ap (λ (s : Stmt). both while_of (expr_in list names (expr_of c)) (branch_in semantic list ordinal names (stmt_of s))) at ∙ sym (ap (λ (t : Stmt). stmt_in semantic list ordinal base names (stmt_of t)) is ∙ ap (stmt_in semantic list ordinal base names) (opened-while i j c k t))) stands
+      (λ semantic. ap (λ (s : Stmt). both while_of (expr_in list names (expr_of c)) (branch_in semantic list ordinal names (stmt_of s))) at ∙ sym (ap (λ (t : Stmt). stmt_in semantic list ordinal base names (stmt_of t)) is ∙ ap (stmt_in semantic list ordinal base names) (opened-while i j c k t))) stands
 
   returned : (semantic : Semantic) (i : ℕ) (e : Option grammar.Expr) (j : ℕ) → stmt_in semantic list ordinal base names (grammar.returns i e j) ≡ returned_in list names e
   unfolding stmt_in
@@ -75,17 +74,17 @@ module _ {E : Type 0} (list : Assembled) (ordinal base : ℕ) (names : Names) (t
   pub arm-return : (i : ℕ) (e : Option Expr) (j : ℕ) (seen : Names) → tree ≡ rust.Return i e j → seen ≡ names → IfOk r (λ told. (n : Numbers) → option_map (view.stmt_of n) told ≡ returned_in list seen (option_map expr_of e)) → Stands
   arm-return i e j seen is same stands =
       stands_always view.stmt_of table (returned_in list seen (option_map expr_of e)) (λ semantic. stmt_in semantic list ordinal base names (stmt_of tree)) r
-        (λ semantic. ap (λ (v : Names). returned_in list v (option_map expr_of e)) same ∙ sym (ap (λ (t : Stmt). stmt_in semantic list ordinal base names (stmt_of t)) is ∙ ap (stmt_in semantic list ordinal base names) (opened-return i e j) ∙ returned semantic i (option_map expr_of e) j)) stands
+      (λ semantic. ap (λ (v : Names). returned_in list v (option_map expr_of e)) same ∙ sym (ap (λ (t : Stmt). stmt_in semantic list ordinal base names (stmt_of t)) is ∙ ap (stmt_in semantic list ordinal base names) (opened-return i e j) ∙ returned semantic i (option_map expr_of e) j)) stands
 
   pub arm-assert : (i j : ℕ) (e : Expr) (k l : ℕ) (seen : Names) → tree ≡ rust.Assert i j e k l → seen ≡ names → IfOk r (StandsFor view.stmt_of table (λ semantic. is_asserted semantic list ordinal seen i (expr_of e))) → Stands
   unfolding stmt_in
   arm-assert i j e k l seen is same stands =
       stands_same view.stmt_of table (λ semantic. is_asserted semantic list ordinal seen i (expr_of e)) (λ semantic. stmt_in semantic list ordinal base names (stmt_of tree)) r
-        (λ semantic. ap (λ (v : Names). is_asserted semantic list ordinal v i (expr_of e)) same ∙ sym (ap (λ (t : Stmt). stmt_in semantic list ordinal base names (stmt_of t)) is ∙ ap (stmt_in semantic list ordinal base names) (opened-assert i j e k l))) stands
+      (λ semantic. ap (λ (v : Names). is_asserted semantic list ordinal v i (expr_of e)) same ∙ sym (ap (λ (t : Stmt). stmt_in semantic list ordinal base names (stmt_of t)) is ∙ ap (stmt_in semantic list ordinal base names) (opened-assert i j e k l))) stands
 
   -- what is no declaration stands as a branch
   pub stands-branch : is_declaration (stmt_of tree) ≡ false → base ≡ length names → Stands
       → IfOk r (StandsFor view.stmt_of table (λ semantic. branch_in semantic list ordinal names (stmt_of tree)))
   stands-branch not_one at stands =
       stands_same view.stmt_of table (λ semantic. stmt_in semantic list ordinal base names (stmt_of tree)) (λ semantic. branch_in semantic list ordinal names (stmt_of tree)) r
-        (λ semantic. ap (λ (k : ℕ). stmt_in semantic list ordinal k names (stmt_of tree)) at ∙ sym (ap (λ (d : Bool). only_if (not d) (stmt_in semantic list ordinal (length names) names (stmt_of tree))) not_one)) stands
+      (λ semantic. ap (λ (k : ℕ). stmt_in semantic list ordinal k names (stmt_of tree)) at ∙ sym (ap (λ (d : Bool). only_if (not d) (stmt_in semantic list ordinal (length names) names (stmt_of tree))) not_one)) stands

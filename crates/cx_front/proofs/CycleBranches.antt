@@ -42,11 +42,12 @@ module _ {E : Type 0} (list : Assembled) (ordinal : ℕ) (names : Names) (table 
       → IfOk r (StandsFor view.stmt_of table (λ semantic. if_of (expr_in list names c) (branch_in semantic list ordinal names s) (Some core.empty)))
   alone_stands seen of_condition same of_body made =
       elim r as (λ (r : Result (Option Statement) E).
-          IfOk r (λ told. (n : Numbers) → option_map (view.stmt_of n) told ≡ if_of (option_map (typed_of n) condition) (Some (view.stmt_of n body)) (Some core.empty))
-          → IfOk r (StandsFor view.stmt_of table (λ semantic. if_of (expr_in list names c) (branch_in semantic list ordinal names s) (Some core.empty))))
-      [ Ok told ↦ λ made. λ n semantic holds.
-          made n ∙ ap (λ (o : Option Typed). if_of o (Some (view.stmt_of n body)) (Some core.empty)) (of_condition n ∙ ap (λ (v : Names). expr_in list v c) same) ∙ ap (λ (o : Option core.Stmt). if_of (expr_in list names c) o (Some core.empty)) (of_body n semantic holds)
-      | Err e ↦ λ made. made ] made
+      IfOk r (λ told. (n : Numbers) → option_map (view.stmt_of n) told ≡ if_of (option_map (typed_of n) condition) (Some (view.stmt_of n body)) (Some core.empty))
+      → IfOk r (StandsFor view.stmt_of table (λ semantic. if_of (expr_in list names c) (branch_in semantic list ordinal names s) (Some core.empty)))) [
+        | Ok told ↦ λ made. λ n semantic holds.
+            made n ∙ ap (λ (o : Option Typed). if_of o (Some (view.stmt_of n body)) (Some core.empty)) (of_condition n ∙ ap (λ (v : Names). expr_in list v c) same) ∙ ap (λ (o : Option core.Stmt). if_of (expr_in list names c) o (Some core.empty)) (of_body n semantic holds)
+        | Err e ↦ λ made. made
+      ] made
 
   pub loop_stands : (seen : Names) → ((n : Numbers) → option_map (typed_of n) condition ≡ expr_in list seen c) → seen ≡ names
       → ((n : Numbers) (semantic : Semantic) → Told n semantic table → Some (view.stmt_of n body) ≡ branch_in semantic list ordinal names s)
@@ -54,11 +55,12 @@ module _ {E : Type 0} (list : Assembled) (ordinal : ℕ) (names : Names) (table 
       → IfOk r (StandsFor view.stmt_of table (λ semantic. both while_of (expr_in list names c) (branch_in semantic list ordinal names s)))
   loop_stands seen of_condition same of_body made =
       elim r as (λ (r : Result (Option Statement) E).
-          IfOk r (λ told. (n : Numbers) → option_map (view.stmt_of n) told ≡ both while_of (option_map (typed_of n) condition) (Some (view.stmt_of n body)))
-          → IfOk r (StandsFor view.stmt_of table (λ semantic. both while_of (expr_in list names c) (branch_in semantic list ordinal names s))))
-      [ Ok told ↦ λ made. λ n semantic holds.
-          made n ∙ ap (λ (o : Option Typed). both while_of o (Some (view.stmt_of n body))) (of_condition n ∙ ap (λ (v : Names). expr_in list v c) same) ∙ ap (both while_of (expr_in list names c)) (of_body n semantic holds)
-      | Err e ↦ λ made. made ] made
+      IfOk r (λ told. (n : Numbers) → option_map (view.stmt_of n) told ≡ both while_of (option_map (typed_of n) condition) (Some (view.stmt_of n body)))
+      → IfOk r (StandsFor view.stmt_of table (λ semantic. both while_of (expr_in list names c) (branch_in semantic list ordinal names s)))) [
+        | Ok told ↦ λ made. λ n semantic holds.
+            made n ∙ ap (λ (o : Option Typed). both while_of o (Some (view.stmt_of n body))) (of_condition n ∙ ap (λ (v : Names). expr_in list v c) same) ∙ ap (both while_of (expr_in list names c)) (of_body n semantic holds)
+        | Err e ↦ λ made. made
+      ] made
 
   -- `else` behind a branch that is made
   pub else_stands : (first : Statement) (seen : Names) → ((n : Numbers) → option_map (typed_of n) condition ≡ expr_in list seen c) → seen ≡ names
@@ -67,11 +69,12 @@ module _ {E : Type 0} (list : Assembled) (ordinal : ℕ) (names : Names) (table 
       → IfOk r (λ told. (n : Numbers) (semantic : Semantic) → Told n semantic table → option_map (view.stmt_of n) told ≡ if_of (expr_in list names c) (Some (view.stmt_of n first)) (branch_in semantic list ordinal names s))
   else_stands first seen of_condition same of_body made =
       elim r as (λ (r : Result (Option Statement) E).
-          IfOk r (λ told. (n : Numbers) → option_map (view.stmt_of n) told ≡ if_of (option_map (typed_of n) condition) (Some (view.stmt_of n first)) (Some (view.stmt_of n body)))
-          → IfOk r (λ told. (n : Numbers) (semantic : Semantic) → Told n semantic table → option_map (view.stmt_of n) told ≡ if_of (expr_in list names c) (Some (view.stmt_of n first)) (branch_in semantic list ordinal names s)))
-      [ Ok told ↦ λ made. λ n semantic holds.
-          made n ∙ ap (λ (o : Option Typed). if_of o (Some (view.stmt_of n first)) (Some (view.stmt_of n body))) (of_condition n ∙ ap (λ (v : Names). expr_in list v c) same) ∙ ap (if_of (expr_in list names c) (Some (view.stmt_of n first))) (of_body n semantic holds)
-      | Err e ↦ λ made. made ] made
+      IfOk r (λ told. (n : Numbers) → option_map (view.stmt_of n) told ≡ if_of (option_map (typed_of n) condition) (Some (view.stmt_of n first)) (Some (view.stmt_of n body)))
+      → IfOk r (λ told. (n : Numbers) (semantic : Semantic) → Told n semantic table → option_map (view.stmt_of n) told ≡ if_of (expr_in list names c) (Some (view.stmt_of n first)) (branch_in semantic list ordinal names s))) [
+        | Ok told ↦ λ made. λ n semantic holds.
+            made n ∙ ap (λ (o : Option Typed). if_of o (Some (view.stmt_of n first)) (Some (view.stmt_of n body))) (of_condition n ∙ ap (λ (v : Names). expr_in list v c) same) ∙ ap (if_of (expr_in list names c) (Some (view.stmt_of n first))) (of_body n semantic holds)
+        | Err e ↦ λ made. made
+      ] made
 
 -- ---- two branches
 
@@ -112,7 +115,7 @@ module _ (list : Assembled) (base : ℕ) (names between : Names) (start front mo
 
   opened : (semantic : Semantic) → tree ≡ rust.Branches i j c k t l f → a ≡ t.value → b ≡ f.value
       → if_of (expr_in list names (expr_of c)) (branch_in semantic list (length start + 1) names (stmt_of a)) (branch_in semantic list (length start + 1 + length (assertions_in list (length start + 1) (stmt_of a))) names (stmt_of b))
-        ≡ stmt_in semantic list (length start + 1) base names (stmt_of tree)
+      ≡ stmt_in semantic list (length start + 1) base names (stmt_of tree)
   unfolding stmt_in
   opened semantic is at_a at_b = ap (stmt_in semantic list (length start + 1) base names) (same_tree is at_a at_b)
 
@@ -123,9 +126,9 @@ module _ (list : Assembled) (base : ℕ) (names between : Names) (start front mo
       → IfOk r (StandsFor view.stmt_of more (λ semantic. stmt_in semantic list (length start + 1) base names (stmt_of tree)))
   arm-branches (Ok told) body is at_a at_b same first of_first stands grown = λ n semantic holds.
       let moved : if_of (expr_in list between (expr_of c)) (Some (view.stmt_of n body)) (branch_in semantic list (length front + 1) between (stmt_of b))
-              ≡ if_of (expr_in list names (expr_of c)) (Some (view.stmt_of n body)) (branch_in semantic list (length start + 1 + length (assertions_in list (length start + 1) (stmt_of a))) names (stmt_of b)) =
-          ap (λ (v : Names). if_of (expr_in list v (expr_of c)) (Some (view.stmt_of n body)) (branch_in semantic list (length front + 1) v (stmt_of b))) same
-          ∙ ap (λ (k : ℕ). if_of (expr_in list names (expr_of c)) (Some (view.stmt_of n body)) (branch_in semantic list k names (stmt_of b))) (next first) in
+      ≡ if_of (expr_in list names (expr_of c)) (Some (view.stmt_of n body)) (branch_in semantic list (length start + 1 + length (assertions_in list (length start + 1) (stmt_of a))) names (stmt_of b)) =
+      ap (λ (v : Names). if_of (expr_in list v (expr_of c)) (Some (view.stmt_of n body)) (branch_in semantic list (length front + 1) v (stmt_of b))) same
+      ∙ ap (λ (k : ℕ). if_of (expr_in list names (expr_of c)) (Some (view.stmt_of n body)) (branch_in semantic list k names (stmt_of b))) (next first) in
       both_stand n semantic body told same first (of_first n semantic) (stands n semantic holds ∙ moved) grown holds ∙ opened semantic is at_a at_b
   arm-branches (Err e) body is at_a at_b same first of_first stands grown = stands
 

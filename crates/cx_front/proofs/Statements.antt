@@ -126,7 +126,7 @@ module _ (list : Assembled) where
   stands_more n semantic base names visible table front b s made told at_front seen of_front of_last =
       let count : length front + 1 ≡ length table + 1 + length (all_assertions_in list (length table + 1) b) = omega (arith, ap length at_front, length-append table (all_assertions_in list (length table + 1) b)) in
       let last : stmt_in semantic list (length table + 1 + length (all_assertions_in list (length table + 1) b)) base (names_after names b) s ≡ told =
-          ap (λ (k : ℕ). stmt_in semantic list k base (names_after names b) s) (sym count) ∙ ap (λ (v : Names). stmt_in semantic list (length front + 1) base v s) (sym seen) ∙ of_last in
+      ap (λ (k : ℕ). stmt_in semantic list k base (names_after names b) s) (sym count) ∙ ap (λ (v : Names). stmt_in semantic list (length front + 1) base v s) (sym seen) ∙ of_last in
       ap (λ (a : Option Stmts'). both with_last a (stmt_in semantic list (length table + 1 + length (all_assertions_in list (length table + 1) b)) base (names_after names b) s)) of_front
       ∙ ap (both with_last made) last
 
@@ -176,9 +176,9 @@ module _ (list : Assembled) where
     stops n semantic lt is at_front seen none =
         let b : Stmts = stmts_of (take i all) in
         let here : stmts_in semantic list (length table + 1) base names (stmts_of (take (i + 1) all)) ≡ None =
-            ap (stmts_in semantic list (length table + 1) base names) (stmts_more all i x lt is)
-            ∙ stands_more n semantic base names visible table front (stmts_of (take i all)) (stmt_of x) (stmts_in semantic list (length table + 1) base names (stmts_of (take i all))) None at_front seen refl (sym none)
-            ∙ both_none with_last (stmts_in semantic list (length table + 1) base names (stmts_of (take i all))) in
+        ap (stmts_in semantic list (length table + 1) base names) (stmts_more all i x lt is)
+        ∙ stands_more n semantic base names visible table front (stmts_of (take i all)) (stmt_of x) (stmts_in semantic list (length table + 1) base names (stmts_of (take i all))) None at_front seen refl (sym none)
+        ∙ both_none with_last (stmts_in semantic list (length table + 1) base names (stmts_of (take i all))) in
         sym (ap (λ (l : List Stmt). stmts_in semantic list (length table + 1) base names (stmts_of l)) (sym (take-append-drop (i + 1) all))
         ∙ spoilt semantic (length table + 1) base names (take (i + 1) all) (drop (i + 1) all) here)
 

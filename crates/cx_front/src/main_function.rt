@@ -39,10 +39,7 @@ fn main_in<'a>(list: &Assembled, item: &'a Item) -> Option<&'a [Stmt]>
         } if is_int(type_in(of))
             && is_empty(params)
             && is_bare(suffix)
-            && word_at(list, *name_at) == b"main".as_slice() =>
-        {
-            Some(body.statements.as_slice())
-        }
+            && word_at(list, *name_at) == b"main".as_slice() => { Some(body.statements.as_slice()) }
         _ => None,
     }
 }

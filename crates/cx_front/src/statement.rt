@@ -33,15 +33,7 @@ use std::alloc::Global;
 /// It calls itself, through the others below, for each level of the tree: what it needs beside that is done by others,
 /// so that a level takes little stack.
 #[cycle(statement)]
-#[tactic(
-    auto,
-    unfolding(
-        crate::specs::Front::stmt_in,
-        crate::specs::Front::stmts_in,
-        crate::specs::Front::assertions_in,
-        crate::specs::Front::all_assertions_in
-    )
-)]
+#[tactic(auto, unfolding(crate::specs::Front::stmt_in, crate::specs::Front::stmts_in, crate::specs::Front::assertions_in, crate::specs::Front::all_assertions_in))]
 pub fn statement_in(
     alloc: Global,
     list: &Assembled,
@@ -63,7 +55,9 @@ pub fn statement_in(
         Stmt::Evaluate { value, .. } => discarded_in(alloc, list, names.as_slice(), value),
         Stmt::Declare { local, .. } => declared_in(alloc, list, base, names, local),
         Stmt::Branch {
-            condition, body, ..
+            condition,
+            body,
+            ..
         } => if_alone_in(alloc, list, names, assertions, body, condition),
         Stmt::Branches {
             condition,
@@ -75,7 +69,9 @@ pub fn statement_in(
             None => Ok(None),
         },
         Stmt::While {
-            condition, body, ..
+            condition,
+            body,
+            ..
         } => while_in(alloc, list, names, assertions, body, condition),
         Stmt::Return { value, .. } => returned_in(alloc, list, names.as_slice(), value),
         Stmt::Assert { at, predicate, .. } => {
@@ -185,16 +181,7 @@ fn while_in(
 
 /// A branch of `if` or the body of a loop, which is a scope of its own and no declaration [stmt.select.general].
 #[cycle(statement)]
-#[tactic(
-    auto,
-    using(crate::proofs::Statements::branch_behind),
-    unfolding(
-        crate::specs::Front::stmt_in,
-        crate::specs::Front::stmts_in,
-        crate::specs::Front::assertions_in,
-        crate::specs::Front::all_assertions_in
-    )
-)]
+#[tactic(auto, using(crate::proofs::Statements::branch_behind), unfolding(crate::specs::Front::stmt_in, crate::specs::Front::stmts_in, crate::specs::Front::assertions_in, crate::specs::Front::all_assertions_in))]
 fn branch_in(
     alloc: Global,
     list: &Assembled,
@@ -217,16 +204,7 @@ fn branch_in(
 
 /// The statements of a block, whose variables are visible up to its end [basic.scope.block].
 #[cycle(statement)]
-#[tactic(
-    auto,
-    using(crate::proofs::Statements::given_back),
-    unfolding(
-        crate::specs::Front::stmt_in,
-        crate::specs::Front::stmts_in,
-        crate::specs::Front::assertions_in,
-        crate::specs::Front::all_assertions_in
-    )
-)]
+#[tactic(auto, using(crate::proofs::Statements::given_back), unfolding(crate::specs::Front::stmt_in, crate::specs::Front::stmts_in, crate::specs::Front::assertions_in, crate::specs::Front::all_assertions_in))]
 pub fn block_in(
     alloc: Global,
     list: &Assembled,
