@@ -1,5 +1,5 @@
 -- What is told of the parts of a statement is told of the statement.
-use Rattle.std.proofs.Common.{◌≡◌, ℕ, ◌+◌, Bool, true, false, List, ◌++◌, Option, Some, None, Box, Vec, Global, length, refl, sym, ap, ◌∙◌}
+use Rattle.std.proofs.Common.{◌≡◌, ℕ, Bool, false, List, Option, Some, None, Box, Global, length, refl, sym, ap, ◌∙◌}
 use Rattle.std.specs.Prelude.{Result, Ok, Err, IfOk, option_map, not}
 use Rattle.cx_syntax.specs.Tree as grammar
 use Rattle.cx_syntax.specs.declared.tree.expression.Expr.{Expr}
@@ -16,7 +16,7 @@ use Rattle.cx_core.specs.Tree as core
 use Rattle.cx_core.specs.Numbered as view
 use Rattle.cx_core.specs.Numbered.{Numbers}
 use Rattle.cx_front.specs.Front.{Names, both, declared_in, discarded_in, expr_in, if_of, is_declaration, only_if, stmt_in, stmts_in, while_of}
-use Rattle.cx_front.specs.Made.{StandsFor, Told, branch_in, is_asserted, returned_in}
+use Rattle.cx_front.specs.Made.{StandsFor, branch_in, is_asserted, returned_in}
 use Rattle.cx_front.proofs.CycleTrees.{opened-assert, opened-branch, opened-compound, opened-declare, opened-evaluate, opened-return, opened-while}
 
 stands_same : {A T E : Type 0} (view : Numbers → A → T) (table : List Assertion) (given wanted : Semantic → Option T) (r : Result (Option A) E)

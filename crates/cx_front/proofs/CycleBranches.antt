@@ -15,7 +15,7 @@ use Rattle.cx_core.specs.Numbered as view
 use Rattle.cx_core.specs.Numbered.{Numbers}
 use Rattle.cx_front.specs.declared.typed.TypedExpression.{TypedExpression}
 use Rattle.cx_front.specs.Core.{Tells, typed_of}
-use Rattle.cx_front.specs.Front.{Names, Typed, assertions_in, both, expr_in, if_of, names_behind, stmt_in, while_of}
+use Rattle.cx_front.specs.Front.{Names, Typed, assertions_in, both, expr_in, if_of, stmt_in, while_of}
 use Rattle.cx_front.specs.Made.{StandsFor, Told, branch_in}
 use Rattle.cx_front.proofs.Statements.{both_none, if_none, if_none_else, tells_front}
 use Rattle.cx_front.proofs.CycleTrees.{opened-branches}
@@ -146,9 +146,3 @@ module _ (list : Assembled) (base : ℕ) (names between : Names) (start front mo
   arm-branches-added (Ok (Some s)) is at_a at_b first grown = added first grown ∙ ap (λ (t : grammar.Stmt). start ++ assertions_in list (length start + 1) t) (same_tree is at_a at_b)
   arm-branches-added (Ok None) is at_a at_b first grown = grown
   arm-branches-added (Err e) is at_a at_b first grown = grown
-
-  pub arm-branches-visible : {E : Type 0} (r : Result (Option Statement) E) (behind : Names) → tree ≡ rust.Branches i j c k t l f → a ≡ t.value → b ≡ f.value → between ≡ names
-      → IfOk r (λ told. OnSome told (behind ≡ between)) → IfOk r (λ told. OnSome told (behind ≡ names_behind names (stmt_of tree)))
-  arm-branches-visible (Ok (Some s)) behind is at_a at_b same seen = seen ∙ same ∙ ap (names_behind names) (same_tree is at_a at_b)
-  arm-branches-visible (Ok None) behind is at_a at_b same seen = seen
-  arm-branches-visible (Err e) behind is at_a at_b same seen = seen

@@ -108,7 +108,6 @@ fn compound_in(
 
 /// `if` without `else`, if its parts are built [stmt.if].
 #[cycle(statement)]
-#[tactic(auto, using(crate::proofs::Statements::if_none))]
 fn if_alone_in(
     alloc: Global,
     list: &Assembled,
@@ -157,7 +156,6 @@ fn else_in(
 
 /// `while`, if its parts are built [stmt.while].
 #[cycle(statement)]
-#[tactic(auto, using(crate::proofs::Statements::both_none))]
 fn while_in(
     alloc: Global,
     list: &Assembled,
