@@ -1,5 +1,4 @@
 use super::*;
-use cx_code::Ending;
 
 #[test]
 fn statements_run_to_the_value_that_is_returned(rt: HostRuntime) -> Result<(), Fail> {
@@ -73,46 +72,6 @@ fn a_loop_without_end_takes_all_steps(rt: HostRuntime) -> Result<(), Fail> {
     check(&rt, rt.alloc(), case)
 }
 
-/// The steps of the run of a unit that returns.
-fn steps_of(rt: &impl Abort, alloc: Global, text: &[u8]) -> Result<u32, Fail> {
-    let words = words_of(alloc, &WORDS)?;
-    let mut files = MemFiles::new(alloc, &[])?;
-    files.hold(b"a.cpp", text)?;
-    let mut input = MemSource::new(alloc, b"", &[])?;
-    let mut out = MemSink::new(alloc, &[])?;
-    let mut err = MemSink::new(alloc, &[])?;
-    let report = cx(alloc, &words, &mut files, &mut input, &mut out, &mut err);
-    assert!(rt; matches!(report.run.ending, Ending::Returned(_)));
-    Ok(report.run.steps)
-}
-
-#[test]
-fn as_many_steps_as_a_run_takes_are_enough_and_no_fewer(rt: HostRuntime) -> Result<(), Fail> {
-    let alloc = rt.alloc();
-    let text = b"int main(){ contract_assert(1 < 2); return 7; }";
-    let steps = steps_of(&rt, alloc, text)?;
-    let enough = format!(in alloc; "{steps}")?;
-    let words = words_of(
-        alloc,
-        &["exec", "-o", "a.img", "--steps", enough.as_str(), "a.cpp"],
-    )?;
-    check_words(
-        &rt,
-        alloc,
-        &words,
-        Case::of_unit(text, 7, b"cx: returned 7\n"),
-    )?;
-    let fewer = steps.saturating_sub(1);
-    let fewer = format!(in alloc; "{fewer}")?;
-    let words = words_of(
-        alloc,
-        &["exec", "-o", "a.img", "--steps", fewer.as_str(), "a.cpp"],
-    )?;
-    let line = format!(in alloc; "cx: steps spent: {fewer}\n")?;
-    let case = Case::of_unit(text, 138, line.as_bytes());
-    check_words(&rt, alloc, &words, case)
-}
-
 #[test]
 fn a_false_assertion_in_a_loop_has_the_semantic_that_is_asked_for(
     rt: HostRuntime,
@@ -134,11 +93,8 @@ fn a_false_assertion_in_a_loop_has_the_semantic_that_is_asked_for(
         ("quick_enforce", 134, b"cx: contract-terminated\n"),
     ];
     for (semantic, status, err) in rows {
-        let case = Case {
-            words: &["exec", "-o", "a.img", "--semantic", semantic, "a.cpp"],
-            ..Case::of_unit(text, status, err)
-        };
-        check(&rt, rt.alloc(), case)?;
+        let case = Case::of_unit(text, status, err);
+        check_option(&rt, rt.alloc(), "--semantic", semantic, case)?;
     }
     Ok(())
 }

@@ -80,18 +80,6 @@ fn options_stand_once_and_in_their_order(rt: HostRuntime) -> Result<(), Fail> {
     are_refused(&rt, rt.alloc(), &rows)
 }
 
-/// The same with one option and its value.
-fn check_option(
-    rt: &impl Abort,
-    alloc: Global,
-    option: &str,
-    value: &str,
-    case: Case<'_>,
-) -> Result<(), Fail> {
-    let words = words_of(alloc, &["exec", "-o", "a.img", option, value, "a.cpp"])?;
-    check_words(rt, alloc, &words, case)
-}
-
 #[test]
 fn other_numbers_of_steps_are_refused(rt: HostRuntime) -> Result<(), Fail> {
     let rows = ["0", "01", "10000001", "+5", "", "5 ", "0x5", "4294967297"];
