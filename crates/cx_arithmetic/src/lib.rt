@@ -7,8 +7,6 @@ mod division;
 mod range;
 mod shift;
 mod sums;
-#[cfg(test)]
-mod tests;
 mod values;
 
 pub use bits::{both_bits, complement, different_bits, either_bits};

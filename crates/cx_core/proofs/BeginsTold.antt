@@ -3,7 +3,7 @@ use Rattle.std.proofs.Common.{◌≡◌, refl, ap, ◌∙◌, List, [], ◌∷�
 use Rattle.std.proofs.lemmas.List.{append-nil}
 use Rattle.std.proofs.lemmas.Grind.{reverse_onto}
 use Rattle.cx_core.specs.Event.{Evaluation, Event, out, input, input_end, begin, verdict, handler, throw, catch, destroyed, begins_of}
-use Rattle.cx_core.specs.Store.{Value, number, address, null, violation}
+use Rattle.cx_core.specs.Store.{Value, number, address, null, function, violation}
 use Rattle.cx_core.specs.Outcome.{State, Outcome, on, thrown, over}
 use Rattle.cx_core.specs.Meaning.{mean, mean_within, meaning_of, calls_within, main_call, start, depth_limit}
 use Rattle.cx_core.specs.Laws.{BeginsAreTheFirstTold}
@@ -72,6 +72,7 @@ left_at_the_end : (all : List Evaluation) (o : Outcome Value) → Leaves (AreTol
 left_at_the_end all (on (number n) s) h = (s.begins, h)
 left_at_the_end all (on (address a) s) h = (s.begins, h)
 left_at_the_end all (on null s) h = (s.begins, h)
+left_at_the_end all (on (function f) s) h = (s.begins, h)
 left_at_the_end all (on (violation v) s) h = (s.begins, h)
 left_at_the_end all (thrown e s) h = (s.begins, h)
 left_at_the_end all (over answer trace) h = h

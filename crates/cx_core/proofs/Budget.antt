@@ -2,7 +2,7 @@
 use Rattle.std.proofs.Common.{◌≡◌, ◌≢◌, refl, sym, ap, ◌∙◌, ℕ, ◌+◌, List, [], ◌++◌, reverse}
 use Rattle.std.proofs.lemmas.List.{append-nil, reverse-append}
 use Rattle.cx_core.specs.Program.{Program}
-use Rattle.cx_core.specs.Store.{Value, number, address, null, violation}
+use Rattle.cx_core.specs.Store.{Value, number, address, null, function, violation}
 use Rattle.cx_core.specs.Event.{Evaluation, Event, ended, going, waiting, not_a_run}
 use Rattle.cx_core.specs.Outcome.{Outcome, on, thrown, over}
 use Rattle.cx_core.specs.Meaning.{Meaning, mean, mean_within, running, meaning_of, calls_within, main_call, start, depth_limit}
@@ -15,6 +15,7 @@ same_meaning : (d : ℕ) (o o' : Outcome Value) → Extends d o o' → (meaning_
 same_meaning d (on (number n) s) o' h k = ap meaning_of h
 same_meaning d (on (address a) s) o' h k = ap meaning_of h
 same_meaning d (on null s) o' h k = ap meaning_of h
+same_meaning d (on (function f) s) o' h k = ap meaning_of h
 same_meaning d (on (violation v) s) o' h k = ap meaning_of h
 same_meaning d (thrown e s) o' h k = ap meaning_of h
 same_meaning d (over going trace) o' h k = absurd (k refl)
@@ -35,6 +36,7 @@ grown_continues : (trace : List Event) (o : Outcome Value) → Grows trace o →
 grown_continues trace (on (number n) s) h = grown_reversed trace s.trace h
 grown_continues trace (on (address a) s) h = grown_reversed trace s.trace h
 grown_continues trace (on null s) h = grown_reversed trace s.trace h
+grown_continues trace (on (function f) s) h = grown_reversed trace s.trace h
 grown_continues trace (on (violation v) s) h = grown_reversed trace s.trace h
 grown_continues trace (thrown e s) h = grown_reversed trace s.trace h
 grown_continues trace (over answer later) h = grown_reversed trace later h
@@ -43,6 +45,7 @@ events_continue : (d : ℕ) (o o' : Outcome Value) → Extends d o o' → Contin
 events_continue d (on (number n) s) o' h = same_continues _ _ (ap meaning_of h)
 events_continue d (on (address a) s) o' h = same_continues _ _ (ap meaning_of h)
 events_continue d (on null s) o' h = same_continues _ _ (ap meaning_of h)
+events_continue d (on (function f) s) o' h = same_continues _ _ (ap meaning_of h)
 events_continue d (on (violation v) s) o' h = same_continues _ _ (ap meaning_of h)
 events_continue d (thrown e s) o' h = same_continues _ _ (ap meaning_of h)
 events_continue d (over going trace) o' h = grown_continues trace o' h

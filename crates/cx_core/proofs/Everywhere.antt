@@ -5,18 +5,19 @@ use Rattle.cx_core.specs.declared.number.BinaryOperator.{BinaryOperator}
 use Rattle.cx_core.specs.declared.number.UnaryOperator.{UnaryOperator}
 use Rattle.cx_core.specs.declared.number.Query.{Query}
 use Rattle.cx_core.specs.Words.{Kind, Semantic, Ignore, Observe, Enforce, QuickEnforce, Violation}
-use Rattle.cx_core.specs.Tree.{ObjectType, scalar, pointer, class, Assertion, Check}
-use Rattle.cx_core.specs.Store.{Address, Value, number, address, null, violation, Leaf, Store, place_in}
+use Rattle.cx_core.specs.Tree.{ObjectType, scalar, pointer, function_pointer, class, PointedResult, void_result, scalar_result, reference_result, Assertion, Check}
+use Rattle.cx_core.specs.Store.{Address, Value, number, address, null, function, violation, Leaf, Store, place_in}
 use Rattle.cx_core.specs.Event.{Event, begin, input, throw, catch, Answer, Evaluation}
-use Rattle.cx_core.specs.Outcome.{Living, whole, field, Exception, Frame, Does, Nothing, nothing, either, ◌>>=◌, ◌>>◌, gives, throws, ends, defined, some, current_frame, current_store, current_living, current_temporaries, current_held, set_frame, set_living, set_temporaries, set_held, append, spend, spend_all, make, remove, keep, keep_temporary, place_of, read, write}
-use Rattle.cx_core.specs.Leaving.{Call, Calls, edge_if, within, in_unit, leaves_of_type, call_on, destroy, destroy_each, destroy_fields, destroy_object, end, end_each, scope, full_expression, constructing, object, end_unless_among, holding}
+use Rattle.cx_core.specs.Outcome.{Living, whole, field, Exception, Frame, Does, Nothing, nothing, undone_by, either, ◌>>=◌, ◌>>◌, gives, throws, ends, defined, some, current_frame, current_store, current_living, current_temporaries, current_held, set_frame, set_living, set_temporaries, set_held, append, spend, spend_all, add, make, remove, keep, keep_temporary, place_of, read, write}
+use Rattle.cx_core.specs.Leaving.{Call, Calls, edge_if, within, in_unit, leaves_of_type, construct_at, destroy, destroy_each, destroy_fields, destroy_object, end, end_each, scope, full_expression, constructing, object, end_unless_among, holding}
 use Rattle.cx_core.specs.Block.{Owed, Continued, continued, once_less, behind, has_stood, if_permitted, evaluations, next_told, begin_told}
 use Rattle.cx_core.specs.Event.{same_evaluation}
 use Rattle.cx_core.specs.Check.{truth, handle_by, violated, verdict_on, verdict_threw, evaluation}
 use Rattle.cx_core.specs.Operators.{bind, converted_to, read_as, converted, operated, of_type, unary_operation, binary_operation, logical_operation, conditional_operation, cast_operation, assignment, updated, compound_assignment, prefix_operation, postfix_operation, indirection_of, member_of}
-use Rattle.cx_core.specs.Library.{write_bytes, putchar_call, next_byte, getchar_call, puts_call, query_call, puts_comment_call}
+use Rattle.cx_core.specs.Library.{write_bytes, putchar_call, next_byte, getchar_call, puts_bytes, puts_call, query_call, puts_comment_call}
 use Rattle.cx_core.specs.Program.{Program, LeafKind, number_leaf, pointer_leaf, empty_leaf, ResultKind, void, scalar_value, scalar_object, class_object, reference, exit_status}
-use Rattle.cx_core.specs.Statements.{Completion, on_to_next, break, continue, return, sequence, loop, zero_leaf, zero_leaves, zero_object, call_of, call_into, call_with_object, call_giving, throw_of, rethrow_of, rethrown, handled, variable_of, reference_of, this_place, keep_field, field_of, type_name}
+use Rattle.cx_core.specs.Statements.{Completion, on_to_next, break, continue, return, sequence, loop, zero_leaf, zero_leaves, zero_object, throw_of, rethrow_of, rethrown, handled, variable_of, reference_of, this_place, keep_field, field_of, type_name}
+use Rattle.cx_core.specs.Calls.{Callee, by_name, by_pointer, function_held, call_to, call_of, call_into, call_with_object, call_giving, call_through_giving, result_stored, returned, returned_object, value_given, body, destroy_result, naming_result, checked_body}
 
 -- an event that takes nothing of what is told or of the input
 abbrev pub IsPlain : Event → Type 0
@@ -45,7 +46,7 @@ pub record IsClosed (K : (A : Type 0) → Does A → Type 0) : Type 1 where
   pub of_set_living : (living : List Living) → K Nothing (set_living living)
   pub of_set_temporaries : (temporaries : List Living) → K Nothing (set_temporaries temporaries)
   pub of_set_held : (held : List Exception) → K Nothing (set_held held)
-  pub of_make : (leaves : ℕ) → K ℕ (make leaves)
+  pub of_add : (leaves : ℕ) → K ℕ (add leaves)
   pub of_remove : (n : ℕ) → K Nothing (remove n)
   pub of_write : (a : Address) (leaf : Leaf) → K Nothing (write a leaf)
 
@@ -123,7 +124,7 @@ module _ (K : (A : Type 0) → Does A → Type 0) (c : IsClosed K) where
   set_held_of held = c.of_set_held held
 
   make_of : (leaves : ℕ) → K ℕ (make leaves)
-  make_of leaves = c.of_make leaves
+  make_of leaves = seq_of spend (add leaves) c.of_spend (c.of_add leaves)
 
   remove_of : (n : ℕ) → K Nothing (remove n)
   remove_of n = c.of_remove n
@@ -141,12 +142,14 @@ module _ (K : (A : Type 0) → Does A → Type 0) (c : IsClosed K) where
   place_of_of (address a) = search steps
   place_of_of null = search steps
   place_of_of (number n) = search steps
+  place_of_of (function f) = search steps
   place_of_of (violation v) = search steps
 
   pub truth_of : (v : Value) → K Bool (truth v)
   truth_of (address a) = search steps
   truth_of null = search steps
   truth_of (number n) = search steps
+  truth_of (function f) = search steps
   truth_of (violation v) = search steps
 
   -- ---- operators
@@ -166,9 +169,11 @@ module _ (K : (A : Type 0) → Does A → Type 0) (c : IsClosed K) where
   operated_of operator type (number x) (number y) = search steps
   operated_of operator type (number x) (address a) = search steps
   operated_of operator type (number x) null = search steps
+  operated_of operator type (number x) (function f) = search steps
   operated_of operator type (number x) (violation v) = search steps
   operated_of operator type (address a) y = search steps
   operated_of operator type null y = search steps
+  operated_of operator type (function f) y = search steps
   operated_of operator type (violation v) y = search steps
 
   pub of_type_of : (type : IntegerType) (v : Value) → K ℤ (of_type type v)
@@ -222,14 +227,17 @@ module _ (K : (A : Type 0) → Does A → Type 0) (c : IsClosed K) where
   pub getchar_call_of : K Value getchar_call
   getchar_call_of = search steps
 
+  pub puts_bytes_of : (text : List ℕ) → K Value (puts_bytes text)
+  puts_bytes_of text = search (steps, write_bytes_of)
+
   pub puts_call_of : (text : List ℕ) → K Value (puts_call text)
-  puts_call_of text = search (steps, write_bytes_of)
+  puts_call_of text = seq_of _ _ spend_of (puts_bytes_of text)
 
   pub query_call_of : (q : Query) (m : Does Value) → K Value m → K Value (query_call q m)
   query_call_of q m h = search (steps, spend_all_of, h)
 
   pub puts_comment_call_of : (m : Does Value) → K Value m → K Value (puts_comment_call m)
-  puts_comment_call_of m h = search (steps, spend_all_of, puts_call_of, h)
+  puts_comment_call_of m h = search (steps, spend_all_of, puts_bytes_of, h)
 
   -- ---- blocks of checks
 
@@ -297,14 +305,15 @@ module _ (K : (A : Type 0) → Does A → Type 0) (c : IsClosed K) where
   module _ (program : Program) (calls : Calls) (calls_of : (call : Call) → K Value (calls call)) where
     pub leaves_of_type_of : (type : ObjectType) → K ℕ (leaves_of_type program calls type)
     leaves_of_type_of (scalar s) = gives_of _
-    leaves_of_type_of pointer = gives_of _
+    leaves_of_type_of (pointer t) = gives_of _
+    leaves_of_type_of (function_pointer t) = gives_of _
     leaves_of_type_of (class t) = search steps
 
-    pub call_on_of : (f : ℕ) (a : Address) (arguments : List Value) → K Nothing (call_on program calls f a arguments)
-    call_on_of f a arguments = search (steps, calls_of) depth 8
+    pub construct_at_of : (f : ℕ) (a : Address) (arguments : List Value) → K Nothing (construct_at program calls f a arguments)
+    construct_at_of f a arguments = search (steps, calls_of) depth 8
 
     pub destroy_of : (t : ℕ) (a : Address) → K Nothing (destroy program calls t a)
-    destroy_of t a = then_of _ _ (some_of _) (λ definition. call_on_of definition.destructor a [])
+    destroy_of t a = search (steps, calls_of) depth 10
 
     pub destroy_each_of : (a : Address) (fields : List (ℕ × ℕ)) → K Nothing (destroy_each program calls a fields)
     destroy_each_of a [] = gives_of _
@@ -316,7 +325,8 @@ module _ (K : (A : Type 0) → Does A → Type 0) (c : IsClosed K) where
     pub destroy_object_of : (n : ℕ) (type : ObjectType) → K Nothing (destroy_object program calls n type)
     destroy_object_of n (class t) = destroy_of t _
     destroy_object_of n (scalar s) = gives_of _
-    destroy_object_of n pointer = gives_of _
+    destroy_object_of n (pointer t) = gives_of _
+    destroy_object_of n (function_pointer t) = gives_of _
 
     pub end_of : (l : Living) → K Nothing (end program calls l)
     end_of (whole n type) = search (steps, destroy_object_of)
@@ -348,7 +358,7 @@ module _ (K : (A : Type 0) → Does A → Type 0) (c : IsClosed K) where
     -- ---- checks
 
     pub handle_by_of : (f : Option ℕ) (v : Violation) → K Nothing (handle_by program calls f v)
-    handle_by_of None v = c.of_append _ (tt {0})
+    handle_by_of None v = seq_of _ _ spend_of (c.of_append _ (tt {0}))
     handle_by_of (Some f) v = search (steps, calls_of) depth 8
 
     pub violated_of : (semantic : Semantic) (response : Does Nothing) → K Nothing response → K Nothing (violated program calls semantic response)
@@ -388,23 +398,6 @@ module _ (K : (A : Type 0) → Does A → Type 0) (c : IsClosed K) where
     pub zero_object_of : (t : ℕ) (a : Address) → K Nothing (zero_object program calls t a)
     zero_object_of t a = search (steps, zero_leaves_of, spend_all_of) depth 8
 
-    pub call_of_of : (f : ℕ) (arguments : Does (List Value)) (result : Option Value) → K (List Value) arguments → K Value (call_of program calls f arguments result)
-    call_of_of f arguments result h = search (steps, scope_of, calls_of, h) depth 8
-
-    pub call_into_of : (f : ℕ) (arguments : Does (List Value)) (n : ℕ) → K (List Value) arguments → K Value (call_into program calls f arguments n)
-    call_into_of f arguments n h = search (steps, scope_of, calls_of, h) depth 12
-
-    pub call_with_object_of : (f : ℕ) (arguments : Does (List Value)) → K (List Value) arguments → K Value (call_with_object program calls f arguments)
-    call_with_object_of f arguments h = search (steps, call_into_of, h) depth 12
-
-    pub call_giving_of : (kind : ResultKind) (f : ℕ) (arguments : Does (List Value)) → K (List Value) arguments → K Value (call_giving program calls kind f arguments)
-    call_giving_of scalar_object f arguments h = call_with_object_of f arguments h
-    call_giving_of void f arguments h = call_of_of f arguments _ h
-    call_giving_of scalar_value f arguments h = call_of_of f arguments _ h
-    call_giving_of (class_object t) f arguments h = call_of_of f arguments _ h
-    call_giving_of reference f arguments h = call_of_of f arguments _ h
-    call_giving_of exit_status f arguments h = call_of_of f arguments _ h
-
     pub throw_of_of : (type : ObjectType) (init : Address → Does Nothing) → ((a : Address) → K Nothing (init a)) → K Completion (throw_of program calls type init)
     throw_of_of type init h =
         then_of _ _ (object_of _ type init (λ l. gives_of nothing) h)
@@ -434,8 +427,103 @@ module _ (K : (A : Type 0) → Does A → Type 0) (c : IsClosed K) where
     pub keep_field_of : (a : Address) (type : ObjectType) → K Nothing (keep_field program calls a type)
     keep_field_of a (class t) = keep_of _
     keep_field_of a (scalar s) = gives_of _
-    keep_field_of a pointer = gives_of _
+    keep_field_of a (pointer t) = gives_of _
+    keep_field_of a (function_pointer t) = gives_of _
 
     pub field_of_of : (leaf : ℕ) (type : ObjectType) (init : Address → Does Nothing) → ((a : Address) → K Nothing (init a)) → K Nothing (field_of program calls leaf type init)
     field_of_of leaf type init h =
         then_of _ _ this_place_of (λ this. seq_of _ _ (full_expression_of _ (h (place_in this leaf))) (keep_field_of (place_in this leaf) type))
+
+    -- ---- calls and their results
+
+    pub function_held_of : (v : Value) → K ℕ (function_held v)
+    function_held_of (function f) = gives_of _
+    function_held_of null = ends_of _
+    function_held_of (number n) = ends_of _
+    function_held_of (address a) = ends_of _
+    function_held_of (violation v) = ends_of _
+
+    pub call_to_of : (callee : Callee) (arguments : List Value) (result : Option Value) → K Value (call_to program calls callee arguments result)
+    call_to_of (by_name f) arguments result = search (steps, calls_of) depth 8
+    call_to_of (by_pointer p) arguments result = search (steps, function_held_of, calls_of) depth 8
+
+    pub call_of_of : (callee : Callee) (arguments : Does (List Value)) (result : Option Value) → K (List Value) arguments → K Value (call_of program calls callee arguments result)
+    call_of_of callee arguments result h = search (steps, scope_of, call_to_of, h) depth 8
+
+    pub call_into_of : (callee : Callee) (arguments : Does (List Value)) (n : ℕ) → K (List Value) arguments → K Value (call_into program calls callee arguments n)
+    call_into_of callee arguments n h = search (steps, scope_of, call_to_of, h) depth 12
+
+    pub call_with_object_of : (callee : Callee) (arguments : Does (List Value)) → K (List Value) arguments → K Value (call_with_object program calls callee arguments)
+    call_with_object_of callee arguments h = search (steps, call_into_of, h) depth 12
+
+    pub call_giving_of : (kind : ResultKind) (f : ℕ) (arguments : Does (List Value)) → K (List Value) arguments → K Value (call_giving program calls kind f arguments)
+    call_giving_of scalar_object f arguments h = call_with_object_of (by_name f) arguments h
+    call_giving_of void f arguments h = call_of_of (by_name f) arguments None h
+    call_giving_of scalar_value f arguments h = call_of_of (by_name f) arguments None h
+    call_giving_of (class_object t) f arguments h = call_of_of (by_name f) arguments None h
+    call_giving_of reference f arguments h = call_of_of (by_name f) arguments None h
+    call_giving_of exit_status f arguments h = call_of_of (by_name f) arguments None h
+
+    pub call_through_giving_of : (kind : PointedResult) (p : Value) (arguments : Does (List Value)) → K (List Value) arguments → K Value (call_through_giving program calls kind p arguments)
+    call_through_giving_of scalar_result p arguments h = call_with_object_of (by_pointer p) arguments h
+    call_through_giving_of void_result p arguments h = call_of_of (by_pointer p) arguments None h
+    call_through_giving_of reference_result p arguments h = call_of_of (by_pointer p) arguments None h
+
+    result_stored_of : (result : Option Value) (v : Value) → K Value (result_stored program calls result v)
+    result_stored_of None v = gives_of _
+    result_stored_of (Some place) v = search (steps, place_of_of)
+
+    pub returned_of : (m : Does Value) → K Value m → K Value (returned program calls m)
+    returned_of m h = full_expression_of _ (then_of _ _ h (λ v. then_of _ _ current_frame_of (λ frame. result_stored_of frame.result v)))
+
+    pub returned_object_of : (init : Address → Does Nothing) → ((a : Address) → K Nothing (init a)) → K Nothing (returned_object program calls init)
+    returned_object_of init h = full_expression_of _
+        (then_of _ _ current_frame_of (λ frame. then_of _ _ (some_of _) (λ place. then_of _ _ (place_of_of place) h)))
+
+    value_given_of : (kind : ResultKind) (completion : Completion) → K Value (value_given program calls kind completion)
+    value_given_of kind (return v) = gives_of _
+    value_given_of void on_to_next = gives_of _
+    value_given_of void break = gives_of _
+    value_given_of void continue = gives_of _
+    value_given_of exit_status on_to_next = gives_of _
+    value_given_of exit_status break = gives_of _
+    value_given_of exit_status continue = gives_of _
+    value_given_of scalar_value on_to_next = ends_of _
+    value_given_of scalar_value break = ends_of _
+    value_given_of scalar_value continue = ends_of _
+    value_given_of scalar_object on_to_next = ends_of _
+    value_given_of scalar_object break = ends_of _
+    value_given_of scalar_object continue = ends_of _
+    value_given_of (class_object t) on_to_next = ends_of _
+    value_given_of (class_object t) break = ends_of _
+    value_given_of (class_object t) continue = ends_of _
+    value_given_of reference on_to_next = ends_of _
+    value_given_of reference break = ends_of _
+    value_given_of reference continue = ends_of _
+
+    body_of : (kind : ResultKind) (b : Does Completion) → K Completion b → K Value (body program calls kind b)
+    body_of kind b h = then_of _ _ (scope_of _ h) (value_given_of kind)
+
+    destroy_result_of : (kind : ResultKind) (place : Option Value) → K Nothing (destroy_result program calls kind place)
+    destroy_result_of (class_object t) place = then_of _ _ (then_of _ _ (some_of place) place_of_of) (destroy_of t)
+    destroy_result_of void place = gives_of _
+    destroy_result_of scalar_value place = gives_of _
+    destroy_result_of scalar_object place = gives_of _
+    destroy_result_of reference place = gives_of _
+    destroy_result_of exit_status place = gives_of _
+
+    naming_result_of : (kind : ResultKind) (v : Value) (m : Does Nothing) → K Nothing m → K Nothing (naming_result program calls kind v m)
+    naming_result_of reference v m h = then_of _ _ current_frame_of (λ frame. within_of _ m h)
+    naming_result_of void v m h = h
+    naming_result_of scalar_value v m h = h
+    naming_result_of scalar_object v m h = h
+    naming_result_of (class_object t) v m h = h
+    naming_result_of exit_status v m h = h
+
+    undone_of : {A : Type 0} (m : Does A) (last : Does Nothing) → K A m → K Nothing last → K A (undone_by m last)
+    undone_of m last h k = either_of _ _ _ h gives_of (λ e. seq_of _ _ k (throws_of e))
+
+    pub checked_body_of : (kind : ResultKind) (place : Option Value) (before : Does Nothing) (statements : Does Completion) (behind : Does Nothing)
+        → K Nothing before → K Completion statements → K Nothing behind → K Value (checked_body program calls kind place before statements behind)
+    checked_body_of kind place before statements behind hb hs he = seq_of _ _ hb
+        (then_of _ _ (body_of kind _ hs) (λ v. seq_of _ _ (undone_of _ _ (naming_result_of kind v _ he) (destroy_result_of kind place)) (gives_of v)))

@@ -3,7 +3,7 @@ use Rattle.std.proofs.Common.{◌≡◌, refl, ap, ◌∙◌, ℕ, List, [], ◌
 use Rattle.std.proofs.lemmas.List.{append-nil}
 use Rattle.std.proofs.lemmas.Grind.{reverse_onto}
 use Rattle.cx_core.specs.Event.{Event, out, input, input_end, begin, verdict, handler, throw, catch, destroyed, inputs_of}
-use Rattle.cx_core.specs.Store.{Value, number, address, null, violation}
+use Rattle.cx_core.specs.Store.{Value, number, address, null, function, violation}
 use Rattle.cx_core.specs.Outcome.{State, Outcome, on, thrown, over}
 use Rattle.cx_core.specs.Meaning.{mean, mean_within, meaning_of, calls_within, main_call, start, depth_limit}
 use Rattle.cx_core.specs.Laws.{InputIsReadInOrder}
@@ -71,6 +71,7 @@ beginning_at_the_end : (all : List ℕ) (o : Outcome Value) → Leaves (IsInput 
 beginning_at_the_end all (on (number n) s) h = (s.input, h)
 beginning_at_the_end all (on (address a) s) h = (s.input, h)
 beginning_at_the_end all (on null s) h = (s.input, h)
+beginning_at_the_end all (on (function f) s) h = (s.input, h)
 beginning_at_the_end all (on (violation v) s) h = (s.input, h)
 beginning_at_the_end all (thrown e s) h = (s.input, h)
 beginning_at_the_end all (over answer trace) h = h

@@ -3,7 +3,7 @@ use Rattle.std.proofs.Common.{◌≡◌, refl, ℕ, zero, suc, Bool, true, false
 use Rattle.cx_core.specs.Words.{Kind}
 use Rattle.cx_core.specs.Store.{Address, Value, Leaf, Store, without, written}
 use Rattle.cx_core.specs.Event.{Evaluation, Event, begin, input, input_end, Answer}
-use Rattle.cx_core.specs.Outcome.{Living, Exception, Frame, State, Outcome, on, thrown, over, Does, Nothing, after, either, gives, throws, ends, current_frame, current_store, current_living, current_temporaries, current_held, set_frame, set_living, set_temporaries, set_held, append, spend, spend_of, make, remove, write, with_store}
+use Rattle.cx_core.specs.Outcome.{Living, Exception, Frame, State, Outcome, on, thrown, over, Does, Nothing, after, either, gives, throws, ends, current_frame, current_store, current_living, current_temporaries, current_held, set_frame, set_living, set_temporaries, set_held, append, spend, spend_of, add, remove, write, with_store}
 use Rattle.cx_core.specs.Block.{next_told, next_of, begin_told, begin_of}
 use Rattle.cx_core.specs.Library.{next_byte, read_byte}
 use Rattle.cx_core.specs.Statements.{Completion, on_to_next, break, continue, return, turns, loop, after_turn}
@@ -138,9 +138,9 @@ module _ (I : State → Type 0) (J : List Event → Type 0) (v : IsInvariant I J
   unfolding set_held
   of_set_held held s i = v.with_held s held i
 
-  of_make : (leaves : ℕ) → Keeps I J ℕ (make leaves)
-  unfolding make
-  of_make leaves s i = v.with_object s _ i
+  of_add : (leaves : ℕ) → Keeps I J ℕ (add leaves)
+  unfolding add
+  of_add leaves s i = v.with_object s _ i
 
   of_remove : (n : ℕ) → Keeps I J Nothing (remove n)
   unfolding remove
@@ -191,7 +191,7 @@ module _ (I : State → Type 0) (J : List Event → Type 0) (v : IsInvariant I J
     of_set_living = of_set_living;
     of_set_temporaries = of_set_temporaries;
     of_set_held = of_set_held;
-    of_make = of_make;
+    of_add = of_add;
     of_remove = of_remove;
     of_write = of_write;
   }

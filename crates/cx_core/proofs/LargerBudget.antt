@@ -3,7 +3,7 @@ use Rattle.std.proofs.Common.{◌≡◌, refl, sym, ap, subst, ◌∙◌, arith,
 use Rattle.cx_core.specs.Words.{Kind}
 use Rattle.cx_core.specs.Store.{Address, Leaf, Store, written}
 use Rattle.cx_core.specs.Event.{Evaluation, Event, Answer, ended, going, waiting, not_a_run}
-use Rattle.cx_core.specs.Outcome.{Living, Exception, Frame, State, Outcome, on, thrown, over, Does, nothing, after, either, gives, throws, ends, current_frame, current_store, current_living, current_temporaries, current_held, set_frame, set_living, set_temporaries, set_held, append, spend, spend_of, make, remove, write, with_store}
+use Rattle.cx_core.specs.Outcome.{Living, Exception, Frame, State, Outcome, on, thrown, over, Does, nothing, after, either, gives, throws, ends, current_frame, current_store, current_living, current_temporaries, current_held, set_frame, set_living, set_temporaries, set_held, append, spend, spend_of, add, remove, write, with_store}
 use Rattle.cx_core.specs.Block.{next_told, next_of, begin_told, begin_of}
 use Rattle.cx_core.specs.Library.{next_byte, read_byte}
 use Rattle.cx_core.specs.Statements.{Completion, on_to_next, break, continue, return, turns, loop, after_turn}
@@ -199,9 +199,9 @@ append_extends : (event : Event) (d : ℕ) (s : State) → Extends d (append eve
 unfolding append
 append_extends event d s = refl
 
-make_extends : (leaves d : ℕ) (s : State) → Extends d (make leaves s) (make leaves (richer d s))
-unfolding make
-make_extends leaves d s = refl
+add_extends : (leaves d : ℕ) (s : State) → Extends d (add leaves s) (add leaves (richer d s))
+unfolding add
+add_extends leaves d s = refl
 
 remove_extends : (n d : ℕ) (s : State) → Extends d (remove n s) (remove n (richer d s))
 unfolding remove
@@ -357,7 +357,7 @@ everything_lasts = record {
   of_set_living = λ living. lasting (set_living living) (λ from. (grows_closed from).of_set_living living) (λ n. (falls_closed n).of_set_living living) (set_living_extends living);
   of_set_temporaries = λ temporaries. lasting (set_temporaries temporaries) (λ from. (grows_closed from).of_set_temporaries temporaries) (λ n. (falls_closed n).of_set_temporaries temporaries) (set_temporaries_extends temporaries);
   of_set_held = λ held. lasting (set_held held) (λ from. (grows_closed from).of_set_held held) (λ n. (falls_closed n).of_set_held held) (set_held_extends held);
-  of_make = λ leaves. lasting (make leaves) (λ from. (grows_closed from).of_make leaves) (λ n. (falls_closed n).of_make leaves) (make_extends leaves);
+  of_add = λ leaves. lasting (add leaves) (λ from. (grows_closed from).of_add leaves) (λ n. (falls_closed n).of_add leaves) (add_extends leaves);
   of_remove = λ m. lasting (remove m) (λ from. (grows_closed from).of_remove m) (λ n. (falls_closed n).of_remove m) (remove_extends m);
   of_write = λ a leaf. lasting (write a leaf) (λ from. (grows_closed from).of_write a leaf) (λ n. (falls_closed n).of_write a leaf) (write_extends a leaf);
 }

@@ -4,8 +4,7 @@ use Rattle.std.proofs.Math.Dec.{eqb-suc-zero, eqb-zero-suc, eqb-suc-suc}
 use Rattle.std.proofs.Math.Nat.{suc-add}
 use Rattle.std.proofs.Math.Bool.{and-false}
 use Rattle.cx_core.specs.Event.{Evaluation, same_evaluation}
-use Rattle.cx_core.specs.Block.{Owed, Continued, continued, once_less, behind, has_stood, total}
-use Rattle.cx_core.specs.Row.{count, has_numbers, stands_before, stands_before_each, has_order, is_owed, has_no_other, is_row, goes_on, is_taken, AreDistinct, AreWithin, TakenAreTheRows}
+use Rattle.cx_core.specs.Block.{Owed, Continued, continued, once_less, behind, has_stood, total, count, has_numbers, stands_before, stands_before_each, has_order, is_owed, has_no_other, is_row, goes_on, is_taken, AreDistinct, AreWithin, TakenAreTheRows}
 
 -- ---- booleans
 

@@ -11,3 +11,6 @@ mod Account
 mod Depth
 mod Made
 mod Lifetimes
+mod Objects
+mod Pointers
+mod Units

@@ -4,9 +4,9 @@ use Rattle.std.specs.Ordering.{int_eq}
 use Rattle.cx_core.specs.Words.{Semantic, Ignore, Observe, Enforce, QuickEnforce, Holds, False, Threw, DetectionMode, PredicateFalse, EvaluationException, Mixed, ContractTerminated, Violation}
 use Rattle.cx_core.specs.Tree.{Assertion, Check}
 use Rattle.cx_core.specs.Program.{Program}
-use Rattle.cx_core.specs.Store.{Value, number, address, null, violation}
+use Rattle.cx_core.specs.Store.{Value, number, address, null, function, violation}
 use Rattle.cx_core.specs.Event.{verdict, handler, ended}
-use Rattle.cx_core.specs.Outcome.{Exception, Does, Nothing, either, ◌>>=◌, ◌>>◌, gives, skip, ends, undefined, current_frame, append}
+use Rattle.cx_core.specs.Outcome.{Exception, Does, Nothing, either, ◌>>=◌, ◌>>◌, gives, skip, ends, undefined, current_frame, append, spend}
 use Rattle.cx_core.specs.Leaving.{Calls, holding}
 
 abbrev pub violation_of : Assertion → DetectionMode → Semantic → Violation
@@ -26,15 +26,16 @@ abbrev pub truth : Value → Does Bool
 truth (number n) = gives (not (int_eq n (pos 0)))
 truth (address a) = gives true
 truth null = gives false
+truth (function f) = gives true
 truth (violation v) = undefined Mixed
 
 module _ (program : Program) (calls : Calls) where
   -- the handler that a unit defines, or the default one
   abbrev pub handle_by : Option ℕ → Violation → Does Nothing
-  handle_by None v = append (handler v)
+  handle_by None v = spend >> append (handler v)
   handle_by (Some f) v = do
     frame ← current_frame
-    calls (record { function = f; unit = frame.unit; arguments = violation v ∷ []; result = None })
+    calls (record { function = f; caller = None; unit = frame.unit; reports = Some v; arguments = violation v ∷ []; result = None })
     skip
 
   abbrev pub handle : Violation → Does Nothing

@@ -1,15 +1,23 @@
 -- What is done where a scope, a full-expression, a constructor, a handler or a call is left, in whatever way: [stmt.jump.general], [class.temporary], [except.ctor], [except.terminate] and [class.dtor] of the C++ draft, with this project's own end at the edge where `std::terminate` is due.
-use Rattle.std.specs.Prelude.{ℕ, Bool, false, ◌||◌, if◌then◌else◌, nat_eq, List, [], ◌∷◌, length, reverse, Option, None, slice_get}
-use Rattle.cx_core.specs.Tree.{ObjectType, scalar, pointer, class}
+use Rattle.std.specs.Prelude.{ℕ, Bool, false, ◌||◌, if◌then◌else◌, nat_eq, List, [], ◌∷◌, length, reverse, Option, Some, None, slice_get}
+use Rattle.cx_core.specs.Words.{Violation}
+use Rattle.cx_core.specs.Tree.{ObjectType, scalar, pointer, function_pointer, class}
 use Rattle.cx_core.specs.Store.{Address, Value, address, place_in}
 use Rattle.cx_core.specs.Outcome.{Living, whole, field, Exception, Frame, Does, Nothing, either, ◌>>=◌, ◌>>◌, gives, throws, skip, some, finally, undone_by, edge, current_frame, set_frame, current_living, set_living, current_temporaries, set_temporaries, current_held, set_held, make, end_lifetime}
 use Rattle.cx_core.specs.Program.{Program, Class, Field}
 
--- a call that is about to become active: the unit whose code evaluates it, what the parameters denote, `this` first, and the result object's place
+-- a call that is about to become active
 pub record Call : Type 0 where
   pub function : ℕ
+  -- the unit that checks the function's contract assertions as Caller; none at a call through a pointer, of a destructor or by a violation
+  pub caller : Option ℕ
+  -- the unit whose code evaluates the call; implicit functions are code of it
   pub unit : ℕ
+  -- the violation that makes this call of its handler
+  pub reports : Option Violation
+  -- what the parameters denote, `this` first
   pub arguments : List Value
+  -- the place of the result object
   pub result : Option Value
 
 -- what calls do
@@ -35,7 +43,8 @@ in_unit unit m = do
 abbrev pub and_class_field : ℕ → ObjectType → List (ℕ × ℕ) → List (ℕ × ℕ)
 and_class_field leaf (class c) fields = (leaf, c) ∷ fields
 and_class_field leaf (scalar s) fields = fields
-and_class_field leaf pointer fields = fields
+and_class_field leaf (pointer t) fields = fields
+and_class_field leaf (function_pointer t) fields = fields
 
 -- the fields that are class objects, by leaf and class, in order
 abbrev pub class_fields : List Field → List (ℕ × ℕ)
@@ -48,21 +57,24 @@ module _ (program : Program) (calls : Calls) where
 
   abbrev pub leaves_of_type : ObjectType → Does ℕ
   leaves_of_type (scalar s) = gives 1
-  leaves_of_type pointer = gives 1
+  leaves_of_type (pointer t) = gives 1
+  leaves_of_type (function_pointer t) = gives 1
   leaves_of_type (class c) = class_at c >>= (λ definition. gives (length definition.leaves))
 
-  -- a constructor, copy constructor or destructor is called on the object at a place
-  abbrev pub call_on : ℕ → Address → List Value → Does Nothing
-  call_on f a arguments = do
+  -- the object at a place is constructed by a call that no expression of the source makes
+  abbrev pub construct_at : (constructor : ℕ) → Address → List Value → Does Nothing
+  construct_at f a arguments = do
     frame ← current_frame
-    calls (record { function = f; unit = frame.unit; arguments = address a ∷ arguments; result = None })
+    calls (record { function = f; caller = Some frame.unit; unit = frame.unit; reports = None; arguments = address a ∷ arguments; result = None })
     skip
 
   -- a class object is destroyed by its destructor, implicit or not
   abbrev pub destroy : ℕ → Address → Does Nothing
   destroy c a = do
     definition ← class_at c
-    call_on definition.destructor a []
+    frame ← current_frame
+    calls (record { function = definition.destructor; caller = None; unit = frame.unit; reports = None; arguments = address a ∷ []; result = None })
+    skip
 
   abbrev pub destroy_each : Address → List (ℕ × ℕ) → Does Nothing
   destroy_each a [] = skip
@@ -109,7 +121,7 @@ module _ (program : Program) (calls : Calls) where
 
   -- ---- objects
 
-  -- an object gets its number before its initialiser is evaluated, and belongs to its scope once that is done;
+  -- an object spends its unit and gets its number before its initialiser is evaluated, and belongs to its scope once that is done;
   -- where that is left by an exception the object ends without more
   abbrev pub object : (Living → Does Nothing) → ObjectType → (Address → Does Nothing) → Does ℕ
   object keeps type init = do

@@ -11,9 +11,14 @@ pub mod Check
 pub mod Operators
 pub mod Library
 pub mod Statements
+pub mod Calls
 pub mod Meaning
 pub mod Runs
-pub mod Numbered
+pub mod Unit
+pub mod View
+pub mod Renamed
+pub mod Numbers
 pub mod Linked
+pub mod Weight
+pub mod Explained
 pub mod Laws
-pub mod Row

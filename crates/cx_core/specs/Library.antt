@@ -36,11 +36,15 @@ abbrev pub getchar_call : Does Value
 getchar_call = spend >> next_byte
 
 -- the bytes before the first 0, then a newline
-abbrev pub puts_call : List ℕ → Does Value
-puts_call text = do
+abbrev pub puts_bytes : List ℕ → Does Value
+puts_bytes text = do
   spend
   write_bytes (before_first (nat_eq 0) text ++ 10 ∷ [])
   gives (number (pos 0))
+
+-- the text is a literal
+abbrev pub puts_call : List ℕ → Does Value
+puts_call text = spend >> puts_bytes text
 
 -- ---- of a violation
 
@@ -85,4 +89,4 @@ puts_comment_call m = do
   report ← m
   v ← some (violation_in report)
   spend_all 2
-  puts_call v.comment
+  puts_bytes v.comment

@@ -1,18 +1,20 @@
 -- What a program means: a recursion over its trees, one clause for each production, after [expr], [stmt], [class.ctor], [class.dtor] and [except] of the C++ draft and [basic.contract.eval] of P2900R14; the order of evaluation, the budget, the depth of calls and the globals' numbers are this project's own.
-use Rattle.std.specs.Prelude.{ℕ, zero, suc, ◌+◌, Bool, true, false, if◌then◌else◌, List, [], ◌∷◌, length, map, reverse, Option, Some, None, pos, slice_get}
-use Rattle.cx_core.specs.Words.{Party, Definer, Caller, Flow, Mixed, Returned, Terminated, TooDeep, Undefined}
-use Rattle.cx_core.specs.Tree.{ObjectType, class, Constant, Expr, literal, variable, global, this, result_name, exception_object, unary, binary, logical_and, logical_or, conditional, cast, assign, compound_assign, prefix_step, postfix_step, indirection, member, call, temporary, putchar, getchar, puts, puts_comment, query, Operand, operand, Init, value, construct, zero_first, result_of, Args, no_more, by_reference, by_value, Check, CatchParameter, unnamed, Condition, always, while, Stmt, empty, expression, variable_declaration, reference_declaration, block, if_else, while_loop, for_loop, contract_assert, try, return_value, return_reference, return_object, rethrow, Stmts, done, next, Handlers, none, catch_all}
+use Rattle.std.specs.Prelude.{ℕ, zero, suc, ◌+◌, Bool, true, false, if◌then◌else◌, List, [], ◌∷◌, length, map, reverse, Option, Some, None, slice_get}
+use Rattle.cx_core.specs.Words.{Party, Definer, Caller, Mixed, Returned, Terminated, TooDeep, Undefined, Violation}
+use Rattle.cx_core.specs.Tree.{ObjectType, class, Constant, Expr, literal, variable, global, this, function_name, result_name, exception_object, unary, binary, logical_and, logical_or, conditional, cast, assign, compound_assign, prefix_step, postfix_step, indirection, member, call, call_through, temporary, putchar, getchar, puts, puts_comment, query, Operand, operand, Init, value, construct, zero_first, result_of, result_through, Args, no_more, by_reference, by_value, Check, Specifier, CatchParameter, unnamed, Condition, always, while, Stmt, empty, expression, variable_declaration, reference_declaration, block, if_else, while_loop, for_loop, contract_assert, try, return_value, return_reference, return_object, rethrow, Stmts, done, next, Handlers, none, catch_all}
 use Rattle.cx_core.specs.Tree as tree
-use Rattle.cx_core.specs.Program.{Checks, FieldInit, Body, function, violation_handler, constructor, destructor, implicit_constructor, implicit_copy_constructor, implicit_destructor, is_counted, ResultKind, void, class_object, reference, exit_status, Function, Field, Program}
-use Rattle.cx_core.specs.Store.{Address, Value, number, address, null, violation, Object, place_in}
+use Rattle.cx_core.specs.Program.{Checks, FieldInit, Body, function, constructor, destructor, implicit_constructor, implicit_copy_constructor, implicit_destructor, is_counted, ResultKind, Function, Field, Program}
+use Rattle.cx_core.specs.Store as store
+use Rattle.cx_core.specs.Store.{Address, Value, number, address, null, Object, place_in}
 use Rattle.cx_core.specs.Event.{Evaluation, Event, handler, destroyed, Answer, ended}
-use Rattle.cx_core.specs.Outcome.{Exception, State, Outcome, on, thrown, over, Does, Nothing, nothing, either, ◌>>=◌, ◌>>◌, gives, throws, skip, ends, undefined, some, undone_by, edge, current_frame, current_store, current_living, current_temporaries, current_held, set_frame, set_living, set_temporaries, set_held, append, spend, make, remove, keep, keep_temporary, place_of, read_leaf, write}
-use Rattle.cx_core.specs.Leaving.{Call, Calls, edge_if, within, in_unit, class_at, call_on, destroy, destroy_fields, scope, full_expression, constructing, object}
+use Rattle.cx_core.specs.Outcome.{Exception, State, Outcome, on, thrown, over, Does, Nothing, nothing, either, ◌>>=◌, ◌>>◌, gives, throws, skip, ends, undefined, some, edge, current_frame, current_store, current_living, current_temporaries, current_held, set_frame, set_living, set_temporaries, set_held, append, spend, add, remove, keep, keep_temporary, place_of, read_leaf, write}
+use Rattle.cx_core.specs.Leaving.{Call, Calls, edge_if, within, in_unit, class_at, construct_at, destroy_fields, scope, full_expression, constructing, object}
 use Rattle.cx_core.specs.Block.{Owed, row, evaluations, next_told, begin_told}
 use Rattle.cx_core.specs.Check.{truth, evaluation}
 use Rattle.cx_core.specs.Operators.{constant, named, bind, converted, unary_operation, binary_operation, logical_operation, conditional_operation, cast_operation, assignment, compound_assignment, prefix_operation, postfix_operation, indirection_of, member_of}
 use Rattle.cx_core.specs.Library.{putchar_call, getchar_call, next_byte, puts_call, puts_comment_call, query_call}
-use Rattle.cx_core.specs.Statements.{Completion, on_to_next, break, continue, return, completed, sequence, turns, loop, same_type, zero_object, call_of, call_giving, throw_of, rethrown, handled, variable_of, reference_of, this_place, field_of}
+use Rattle.cx_core.specs.Statements.{Completion, on_to_next, break, continue, return, completed, sequence, turns, loop, same_type, zero_object, throw_of, rethrown, handled, variable_of, reference_of, this_place, field_of}
+use Rattle.cx_core.specs.Calls.{by_name, by_pointer, call_of, call_giving, call_through_giving, returned, returned_object, checked_body}
 
 -- the exception object that the innermost handler holds
 abbrev pub held_object : List Exception → Does Value
@@ -32,6 +34,7 @@ module _ (program : Program) (calls : Calls) where
     expr (variable slot) = spend >> named slot
     expr (global i) = spend >> gives (object_place (i + 1))
     expr this = spend >> named 0
+    expr (function_name f) = spend >> gives (store.function f)
     expr result_name = spend >> current_frame >>= (λ frame. some frame.result)
     expr exception_object = current_held >>= held_object
     expr (unary operator type a) = unary_operation operator type (used a)
@@ -47,6 +50,7 @@ module _ (program : Program) (calls : Calls) where
     expr (indirection a) = indirection_of (used a)
     expr (member leaf a) = member_of leaf (expr a)
     expr (call f a) = result_kind f >>= (λ kind. call_giving program calls kind f (args a))
+    expr (call_through kind p a) = used p >>= (λ v. call_through_giving program calls kind v (args a))
     expr (temporary type i) = object program calls keep_temporary type (init i) >>= (λ n. gives (object_place n))
     expr (putchar a) = putchar_call (used a)
     expr getchar = getchar_call
@@ -59,9 +63,10 @@ module _ (program : Program) (calls : Calls) where
 
     pub init : Init → Address → Does Nothing
     init (value a) p = used a >>= (λ v. write p (Some v))
-    init (construct f a) p = call_of program calls f (args a >>= (λ vs. gives (address p ∷ vs))) None >> skip
+    init (construct f a) p = call_of program calls (by_name f) (args a >>= (λ vs. gives (address p ∷ vs))) None >> skip
     init (zero_first c i) p = zero_object program calls c p >> init i p
-    init (result_of f a) p = call_of program calls f (args a) (Some (address p)) >> skip
+    init (result_of f a) p = call_of program calls (by_name f) (args a) (Some (address p)) >> skip
+    init (result_through q a) p = used q >>= (λ v. call_of program calls (by_pointer v) (args a) (Some (address p)) >> skip)
 
     pub args : Args → Does (List Value)
     args no_more = gives []
@@ -77,15 +82,15 @@ module _ (program : Program) (calls : Calls) where
 
   -- ---- checks
 
-  abbrev pub owed : Party → Check → Owed
-  owed party c = record {
-    evaluation = record { assertion = c.assertion.name; party = party; semantic = c.semantic };
-    times = c.times;
-    left = c.times;
-    check = evaluation program calls c (evaluated c.predicate);
+  abbrev pub owed : Party → Specifier Check → Owed
+  owed party s = record {
+    evaluation = record { assertion = s.of.assertion.name; party = party; semantic = s.of.semantic };
+    times = s.of.times;
+    left = s.of.times;
+    check = evaluation program calls s.of (evaluated s.predicate);
   }
 
-  abbrev pub checked : Party → List Check → Does Nothing
+  abbrev pub checked : Party → List (Specifier Check) → Does Nothing
   checked party checks = row (map (owed party) checks)
 
   -- ---- statements
@@ -93,29 +98,12 @@ module _ (program : Program) (calls : Calls) where
   abbrev pub catch_parameter : CatchParameter → Exception → Does Nothing
   catch_parameter unnamed e = skip
   catch_parameter (tree.reference slot) e = bind slot (object_place e.object)
-  catch_parameter (tree.object slot i) e = variable_of program calls slot e.type (init i)
-
-  -- a scalar result object is initialised by `return`, within its full-expression
-  abbrev pub result_stored : Option Value → Value → Does Value
-  result_stored None v = gives v
-  result_stored (Some place) v = place_of place >>= (λ a. write a (Some v)) >> gives v
-
-  abbrev pub returned : Operand → Does Value
-  returned a = full_expression program calls (do
-    v ← used a
-    frame ← current_frame
-    result_stored frame.result v)
-
-  abbrev pub returned_object : Init → Does Nothing
-  returned_object i = full_expression program calls (do
-    frame ← current_frame
-    place ← some frame.result
-    place_of place >>= init i)
+  catch_parameter (tree.object slot is_named i) e = variable_of program calls slot e.type (init i)
 
   unfoldable mutual
-    pub stmt : Stmt → Does Completion
+    pub stmt : Stmt Check → Does Completion
     stmt empty = gives on_to_next
-    stmt (expression e) = completed (full_expression program calls (expr e) >> skip)
+    stmt (expression a) = completed (evaluated a >> skip)
     stmt (variable_declaration slot type i) = completed (variable_of program calls slot type (init i))
     stmt (reference_declaration slot e) = completed (reference_of program calls slot (expr e))
     stmt (block b) = scope program calls (stmts b)
@@ -125,20 +113,20 @@ module _ (program : Program) (calls : Calls) where
     stmt tree.break = gives break
     stmt tree.continue = gives continue
     stmt tree.return = gives (return null)
-    stmt (return_value a) = returned a >>= (λ v. gives (return v))
+    stmt (return_value a) = returned program calls (used a) >>= (λ v. gives (return v))
     stmt (return_reference e) = full_expression program calls (expr e) >>= (λ v. gives (return v))
-    stmt (return_object i) = returned_object i >> gives (return null)
-    stmt (contract_assert c) = completed (checked Definer (c ∷ []))
+    stmt (return_object i) = returned_object program calls (init i) >> gives (return null)
+    stmt (contract_assert c predicate) = completed (checked Definer (record { of = c; predicate = predicate } ∷ []))
     stmt (tree.throw type i) = full_expression program calls (throw_of program calls type (init i))
     stmt rethrow = rethrown program calls
     stmt (try b h) = either (scope program calls (stmts b)) gives (handlers h)
 
-    pub stmts : Stmts → Does Completion
+    pub stmts : Stmts Check → Does Completion
     stmts done = gives on_to_next
     stmts (next a rest) = stmt a >>= sequence (stmts rest)
 
     -- in order; each that is tried spends a unit of the budget
-    pub handlers : Handlers → Exception → Does Completion
+    pub handlers : Handlers Check → Exception → Does Completion
     handlers none e = throws e
     handlers (catch_all b rest) e = spend >> handled program calls e skip (stmts b)
     handlers (tree.catch type parameter b rest) e =
@@ -154,50 +142,31 @@ module _ (program : Program) (calls : Calls) where
   checks_at f None = or_no_checks None
   checks_at f (Some functions) = or_no_checks (slice_get functions f)
 
-  abbrev pub caller_checks : Call → Checks
-  caller_checks c = checks_at c.function (slice_get program.callers c.unit)
+  -- the checks that a unit makes of a function as Caller
+  abbrev pub caller_checks : (unit function : ℕ) → Checks
+  caller_checks unit f = checks_at f (slice_get program.callers unit)
+
+  -- the Caller's row of a list, if there is a Caller; its predicates are code of its unit
+  abbrev pub caller_row : (Checks → List (Specifier Check)) → Option ℕ → (function : ℕ) → Does Nothing
+  caller_row of None f = skip
+  caller_row of (Some unit) f = in_unit unit (checked Caller (of (caller_checks unit f)))
 
   -- the block before the body: the Caller's row, then the Definer's
   abbrev pub preconditions : Function → Call → Does Nothing
-  preconditions f c = in_unit c.unit (checked Caller (caller_checks c).preconditions) >> checked Definer f.checks.preconditions
+  preconditions f c = caller_row (λ checks. checks.preconditions) c.caller c.function >> checked Definer f.checks.preconditions
 
   -- the block after it: the Definer's row, then the Caller's
   abbrev pub postconditions : Function → Call → Does Nothing
-  postconditions f c = checked Definer f.checks.postconditions >> in_unit c.unit (checked Caller (caller_checks c).postconditions)
+  postconditions f c = checked Definer f.checks.postconditions >> caller_row (λ checks. checks.postconditions) c.caller c.function
 
-  abbrev pub value_given : ResultKind → Completion → Does Value
-  value_given kind (return v) = gives v
-  value_given void completion = gives null
-  value_given exit_status completion = gives (number (pos 0))
-  value_given kind completion = undefined Flow
-
-  abbrev pub body : ResultKind → Stmts → Does Value
-  body kind b = scope program calls (stmts b) >>= value_given kind
-
-  -- a class result that was made is destroyed where a postcondition's handler throws
-  abbrev pub destroy_result : ResultKind → Option Value → Does Nothing
-  destroy_result (class_object t) place = some place >>= place_of >>= destroy program calls t
-  destroy_result kind place = skip
-
-  -- what a result name denotes: the result object, or what a reference result refers to
-  abbrev pub naming_result : ResultKind → Value → Does Nothing → Does Nothing
-  naming_result reference v m = do
-    frame ← current_frame
-    within (record frame { result = Some v }) m
-  naming_result kind v m = m
-
-  abbrev pub function_call : Function → Call → Stmts → Does Value
-  function_call f c b = do
-    preconditions f c
-    v ← body f.result b
-    undone_by (naming_result f.result v (postconditions f c)) (destroy_result f.result c.result)
-    gives v
+  abbrev pub function_call : Function → Call → Stmts Check → Does Value
+  function_call f c b = checked_body program calls f.result c.result (preconditions f c) (stmts b) (postconditions f c)
 
   abbrev pub field_inits : List FieldInit → Does Nothing
   field_inits [] = skip
   field_inits (f ∷ fields) = field_of program calls f.leaf f.type (init f.init) >> field_inits fields
 
-  abbrev pub constructor_call : Function → Call → List FieldInit → Stmts → Does Value
+  abbrev pub constructor_call : Function → Call → List FieldInit → Stmts Check → Does Value
   constructor_call f c fields b = constructing program calls (do
     preconditions f c
     field_inits fields
@@ -206,7 +175,7 @@ module _ (program : Program) (calls : Calls) where
     gives null)
 
   -- the fields are destroyed between the body and the postconditions, outside the edge of both
-  abbrev pub destructor_call : Function → ℕ → Stmts → Does Value
+  abbrev pub destructor_call : Function → ℕ → Stmts Check → Does Value
   destructor_call f t b = do
     object_of ← this_place program calls
     definition ← class_at program calls t
@@ -216,16 +185,17 @@ module _ (program : Program) (calls : Calls) where
     append (destroyed definition.name object_of.object object_of.leaf)
     gives null
 
-  abbrev pub report : List Value → Does Nothing
-  report (violation v ∷ arguments) = append (handler v)
-  report arguments = undefined Mixed
+  -- a violation's call of its handler is told when it becomes active
+  abbrev pub reported : Option Violation → Does Nothing
+  reported None = skip
+  reported (Some v) = append (handler v)
 
   -- a field that is a class object is constructed without arguments, a scalar isn't touched
   abbrev pub default_field : ℕ → ObjectType → Does Nothing
   default_field leaf (class t) = do
     definition ← class_at program calls t
     default ← some definition.default_constructor
-    field_of program calls leaf (class t) (λ a. call_on program calls default a [])
+    field_of program calls leaf (class t) (λ a. construct_at program calls default a [])
   default_field leaf other = skip
 
   abbrev pub default_fields : List Field → Does Nothing
@@ -239,7 +209,7 @@ module _ (program : Program) (calls : Calls) where
   abbrev pub copy_object : ObjectType → Address → Address → Does Nothing
   copy_object (class t) from to = do
     definition ← class_at program calls t
-    call_on program calls definition.copy_constructor to (address from ∷ [])
+    construct_at program calls definition.copy_constructor to (address from ∷ [])
   copy_object other from to = copy_leaf from to
 
   abbrev pub copy_fields : Address → List Field → Does Nothing
@@ -265,9 +235,8 @@ module _ (program : Program) (calls : Calls) where
     default_fields definition.fields
     gives null)
 
-  abbrev pub acting : Body → Function → Call → Does Value
+  abbrev pub acting : Body Check → Function → Call → Does Value
   acting (function b) f c = edge_if f.noexcept (function_call f c b)
-  acting (violation_handler b) f c = report c.arguments >> edge_if f.noexcept (body void b)
   acting (constructor fields b) f c = edge_if f.noexcept (constructor_call f c fields b)
   acting (destructor t b) f c = destructor_call f t b
   acting (implicit_constructor t) f c = implicit_default t
@@ -287,6 +256,7 @@ module _ (program : Program) (calls : Calls) where
   active c = do
     spend
     f ← some (slice_get program.functions c.function)
+    reported c.reports
     within (record { unit = unit_of f c; variables = numbered 0 c.arguments; result = c.result }) (acting f.body f c)
 
 abbrev pub is_implicit_at : Program → ℕ → Bool
@@ -337,7 +307,7 @@ start program begins input budget = record {
 }
 
 abbrev pub main_call : Program → Call
-main_call program = record { function = program.main; unit = 0; arguments = []; result = None }
+main_call program = record { function = program.main; caller = None; unit = 0; reports = None; arguments = []; result = None }
 
 unfoldable pub mean_within : ℕ → Program → List Evaluation → List ℕ → ℕ → Meaning
 mean_within depth program begins input budget =
@@ -352,5 +322,5 @@ mean program begins input budget = mean_within depth_limit program begins input 
 
 -- what unfolds where a program is run by computation
 unfoldable pub running : Nothing
-unfolding mean mean_within calls_within implicit_within expr stmt turns loop next_byte evaluations next_told begin_told either gives throws ends spend append current_frame current_store current_living current_temporaries current_held set_frame set_living set_temporaries set_held make remove write
+unfolding mean mean_within calls_within implicit_within expr stmt turns loop next_byte evaluations next_told begin_told either gives throws ends spend append current_frame current_store current_living current_temporaries current_held set_frame set_living set_temporaries set_held add remove write
 running = nothing

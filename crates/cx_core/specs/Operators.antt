@@ -9,10 +9,10 @@ use Rattle.cx_core.specs.declared.number.BinaryOperator.TheVariants as binary
 use Rattle.cx_core.specs.declared.number.UnaryOperator.{UnaryOperator}
 use Rattle.cx_core.specs.Words.{Kind, Mixed}
 use Rattle.cx_core.specs.Number.{in_range, promoted, converted_number, truth_number, binary_number, unary_number}
-use Rattle.cx_core.specs.Tree.{ObjectType, scalar, pointer, class}
+use Rattle.cx_core.specs.Tree.{ObjectType, scalar, pointer, function_pointer, class}
 use Rattle.cx_core.specs.Tree.{Constant}
 use Rattle.cx_core.specs.Tree as tree
-use Rattle.cx_core.specs.Store.{Address, Value, number, address, null, violation, place_in}
+use Rattle.cx_core.specs.Store.{Address, Value, number, address, null, function, violation, place_in}
 use Rattle.cx_core.specs.Outcome.{Does, Nothing, ◌>>=◌, ◌>>◌, gives, undefined, defined, some, current_frame, set_frame, spend, place_of, read_leaf, read, write}
 use Rattle.cx_core.specs.Check.{truth}
 
@@ -54,9 +54,12 @@ fits_integer (Some type) n = in_range type n
 abbrev pub fits : ObjectType → Value → Bool
 fits (scalar s) (number n) = fits_integer (integer_of s) n
 fits (scalar s) other = false
-fits pointer (address a) = true
-fits pointer null = true
-fits pointer other = false
+fits (pointer t) (address a) = true
+fits (pointer t) null = true
+fits (pointer t) other = false
+fits (function_pointer t) (function f) = true
+fits (function_pointer t) null = true
+fits (function_pointer t) other = false
 fits (class c) v = false
 
 abbrev pub fitting : ObjectType → Value → Does Value
@@ -76,6 +79,7 @@ abbrev pub value_number : IntegerType → Value → Option ℤ
 value_number type (number n) = Some (converted_number type n)
 value_number type (address a) = pointer_number type true
 value_number type null = pointer_number type false
+value_number type (function f) = pointer_number type true
 value_number type (violation v) = None
 
 abbrev pub converted_to : Option IntegerType → Value → Does Value
@@ -111,6 +115,9 @@ same_pointer (address a) (address b) = Some (same_address a b)
 same_pointer (address a) null = Some false
 same_pointer null (address b) = Some false
 same_pointer null null = Some true
+same_pointer (function f) (function g) = Some (nat_eq f g)
+same_pointer (function f) null = Some false
+same_pointer null (function g) = Some false
 same_pointer _ _ = None
 
 abbrev pub pointers_compared : BinaryOperator → Bool → Option ℤ

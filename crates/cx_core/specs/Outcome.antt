@@ -1,8 +1,9 @@
 -- A run as far as it has come, what a part of it comes to, and how parts follow each other: this project's own form of control flow, exceptions and termination.
+-- An object that is made spends a unit of the budget before there is one, and one that ends spends a unit before it is gone; the globals are there before the start.
 use Rattle.std.specs.Prelude.{ℕ, zero, suc, List, ◌∷◌, Option, Some, None, Result, Ok, Err, replicate}
 use Rattle.cx_core.specs.Words.{Kind, Null, Mixed, Undefined, Terminated}
 use Rattle.cx_core.specs.Tree.{ObjectType}
-use Rattle.cx_core.specs.Store.{Address, Value, number, address, null, violation, Leaf, Store, without, written, leaf_at, value_of}
+use Rattle.cx_core.specs.Store.{Address, Value, number, address, null, function, violation, Leaf, Store, without, written, leaf_at, value_of}
 use Rattle.cx_core.specs.Event.{Evaluation, Event, Answer, ended, going}
 
 -- a live object of a scope: one with a number, or a class field of an object under construction
@@ -162,8 +163,12 @@ spend_all (suc n) = spend >> spend_all n
 -- ---- objects
 
 -- an object of so many leaves, all unset, under the next number
-unfoldable pub make : ℕ → Does ℕ
-make leaves = λ s. on s.next (record s { next = suc s.next; store = record { number = s.next; leaves = replicate leaves None } ∷ s.store })
+unfoldable pub add : ℕ → Does ℕ
+add leaves = λ s. on s.next (record s { next = suc s.next; store = record { number = s.next; leaves = replicate leaves None } ∷ s.store })
+
+-- an object is made: its unit is spent before there is one
+abbrev pub make : ℕ → Does ℕ
+make leaves = spend >> add leaves
 
 unfoldable pub remove : ℕ → Does Nothing
 remove n = λ s. on nothing (record s { store = without s.store n })
@@ -182,6 +187,7 @@ abbrev pub place_of : Value → Does Address
 place_of (address a) = gives a
 place_of null = undefined Null
 place_of (number n) = undefined Mixed
+place_of (function f) = undefined Mixed
 place_of (violation v) = undefined Mixed
 
 abbrev pub read_leaf : Address → Does Leaf

@@ -1,11 +1,11 @@
 -- A program with its plan: the functions, classes and globals of its units, each under one number, and the checks that each unit makes as Caller; this project's own form of what P2900R14 calls the choice of evaluation semantics and of repetitions.
 use Rattle.std.specs.Prelude.{ℕ, Bool, true, false, List, Option}
-use Rattle.cx_core.specs.Tree.{ObjectType, Constant, Init, Check, Stmts}
+use Rattle.cx_core.specs.Tree.{ObjectType, Constant, Init, Check, Specifier, Stmts}
 
 -- the checks before a function's body and after it
 pub record Checks : Type 0 where
-  pub preconditions : List Check
-  pub postconditions : List Check
+  pub preconditions : List (Specifier Check)
+  pub postconditions : List (Specifier Check)
 
 -- a field of the class whose constructor this is, by its leaf, with its initialiser
 pub record FieldInit : Type 0 where
@@ -13,15 +13,14 @@ pub record FieldInit : Type 0 where
   pub type : ObjectType
   pub init : Init
 
--- what a call does between its checks; `this` is the first parameter of the last six
-pub data Body : Type 0 where
-  function : Stmts → Body
-  violation_handler : Stmts → Body
-  constructor : List FieldInit → Stmts → Body
-  destructor : (class : ℕ) → Stmts → Body
-  implicit_constructor : (class : ℕ) → Body
-  implicit_copy_constructor : (class : ℕ) → Body
-  implicit_destructor : (class : ℕ) → Body
+-- what a call does between its checks, where an A stands for an assertion; `this` is the first parameter of the last five, and of member functions
+pub data Body (A : Type 0) : Type 0 where
+  function : Stmts A → Body A
+  constructor : List FieldInit → Stmts A → Body A
+  destructor : (class : ℕ) → Stmts A → Body A
+  implicit_constructor : (class : ℕ) → Body A
+  implicit_copy_constructor : (class : ℕ) → Body A
+  implicit_destructor : (class : ℕ) → Body A
 
 -- what a call gives
 pub data ResultKind : Type 0 where
@@ -41,7 +40,7 @@ pub record Function : Type 0 where
   pub result : ResultKind
   -- those that the Definer makes
   pub checks : Checks
-  pub body : Body
+  pub body : Body Check
 
 -- a leaf of a class object, as zero-initialisation [dcl.init.general] sees it
 pub data LeafKind : Type 0 where
@@ -74,7 +73,7 @@ pub record Program : Type 0 where
   pub handler : Option ℕ
 
 -- the depth of calls counts what the source defines
-abbrev pub is_counted : Body → Bool
+abbrev pub is_counted : {A : Type 0} → Body A → Bool
 is_counted (implicit_constructor class) = false
 is_counted (implicit_copy_constructor class) = false
 is_counted (implicit_destructor class) = false

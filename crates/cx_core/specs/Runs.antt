@@ -1,5 +1,5 @@
 -- Which runs a program permits, whole or cut at a limit of steps: this project's own, as is the factor between the steps of a machine and the units of the budget.
-use Rattle.std.specs.Prelude.{◌≡◌, ◌≢◌, ℕ, ◌+◌, ◌-◌, ◌*◌, ◌/◌, ◌<◌, List, ◌++◌}
+use Rattle.std.specs.Prelude.{◌≡◌, ◌≢◌, ℕ, ◌+◌, ◌-◌, ◌*◌, ◌/◌, ◌<◌, ◌≤◌, List, ◌++◌, take, length}
 use Rattle.std.specs.List.{All}
 use Rattle.cx_core.specs.Words.{Ending, StepsSpent}
 use Rattle.cx_core.specs.Program.{Program}
@@ -32,6 +32,16 @@ abbrev pub IsCutRun : Program → List ℕ → List Event → ℕ → Type 0
 IsCutRun program input journal n =
     let m = meant program input journal (n / factor - 1) in
     IsBegun program input journal n × (m.answer ≡ going) × IsPrefix m.trace journal
+
+-- the first k events of a journal are those that a run of n steps may have
+abbrev pub IsRightUpTo : Program → List ℕ → List Event → ℕ → ℕ → Type 0
+IsRightUpTo program input journal n k = IsPrefix (take k journal) (meant program input journal (factor * (n + 1))).trace
+
+-- the length of a journal's longest prefix that a run of n steps may have
+abbrev pub IsLongestRight : Program → List ℕ → List Event → ℕ → ℕ → Type 0
+IsLongestRight program input journal n k =
+    (k ≤ length journal) × IsRightUpTo program input journal n k
+    × ((more : ℕ) → k < more → more ≤ length journal → IsRightUpTo program input journal n more → ⊥)
 
 -- what a machine answers on an input within a limit of steps
 pub record MachineRun : Type 0 where

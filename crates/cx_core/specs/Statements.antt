@@ -1,12 +1,12 @@
--- What statements, initialisations and calls do, given what their parts do: [stmt], [dcl.init], [expr.call] and [except] of the C++ draft, with this project's own object numbers and lifetimes of parameters.
-use Rattle.std.specs.Prelude.{ℕ, zero, suc, Bool, true, false, if◌then◌else◌, List, [], ◌∷◌, Option, Some, None, nat_eq, slice_get, pos}
+-- What statements and initialisations do, given what their parts do: [stmt], [dcl.init] and [except] of the C++ draft, with this project's own object numbers.
+use Rattle.std.specs.Prelude.{ℕ, zero, suc, Bool, false, if◌then◌else◌, List, [], ◌∷◌, Option, Some, None, nat_eq, slice_get, pos}
 use Rattle.cx_types.specs.Scalar.{scalar_name, same_scalar}
 use Rattle.cx_core.specs.Words.{Terminated}
-use Rattle.cx_core.specs.Tree.{ObjectType, scalar, pointer, class}
+use Rattle.cx_core.specs.Tree.{ObjectType, scalar, pointer, function_pointer, class}
 use Rattle.cx_core.specs.Store.{Address, Value, number, address, null, place_in}
 use Rattle.cx_core.specs.Event.{throw, catch, ended, going}
-use Rattle.cx_core.specs.Outcome.{field, Exception, Does, Nothing, ◌>>=◌, ◌>>◌, gives, throws, skip, ends, undone_by, edge, current_frame, current_held, append, spend, spend_all, make, end_lifetime, keep, place_of, read, write}
-use Rattle.cx_core.specs.Program.{Program, Class, LeafKind, number_leaf, pointer_leaf, empty_leaf, ResultKind, scalar_object}
+use Rattle.cx_core.specs.Outcome.{field, Exception, Does, Nothing, ◌>>=◌, ◌>>◌, gives, throws, skip, ends, edge, current_held, append, spend, spend_all, keep, place_of, write}
+use Rattle.cx_core.specs.Program.{Program, Class, LeafKind, number_leaf, pointer_leaf, empty_leaf}
 use Rattle.cx_core.specs.Leaving.{Calls, class_at, scope, full_expression, object, holding}
 use Rattle.cx_core.specs.Operators.{bind, named}
 
@@ -47,7 +47,7 @@ loop condition step body = λ s. turns s.budget condition step body s
 
 abbrev pub same_type : ObjectType → ObjectType → Bool
 same_type (scalar a) (scalar b) = same_scalar a b
-same_type pointer pointer = true
+same_type (pointer a) (pointer b) = same_type a b
 same_type (class a) (class b) = nat_eq a b
 same_type _ _ = false
 
@@ -57,7 +57,8 @@ class_name (Some definition) = definition.name
 
 abbrev pub type_name : Program → ObjectType → List ℕ
 type_name program (scalar s) = scalar_name s
-type_name program pointer = []
+type_name program (pointer t) = []
+type_name program (function_pointer t) = []
 type_name program (class c) = class_name (slice_get program.classes c)
 
 -- ---- zero-initialisation [dcl.init.general]
@@ -77,36 +78,6 @@ module _ (program : Program) (calls : Calls) where
     definition ← class_at program calls c
     zero_leaves a definition.leaves
     spend_all definition.objects
-
-  -- ---- calls
-
-  -- the parameters are a scope, which ends when the call has ended
-  abbrev pub call_of : ℕ → Does (List Value) → Option Value → Does Value
-  call_of f arguments result = scope program calls (do
-    values ← arguments
-    frame ← current_frame
-    calls (record { function = f; unit = frame.unit; arguments = values; result = result }))
-
-  -- the value of a result object is read after the last postcondition, before the parameters end
-  abbrev pub call_into : ℕ → Does (List Value) → ℕ → Does Value
-  call_into f arguments n = scope program calls (do
-    values ← arguments
-    frame ← current_frame
-    let place : Address = record { object = n; leaf = 0 }
-    calls (record { function = f; unit = frame.unit; arguments = values; result = Some (address place) })
-    read place)
-
-  -- a result object is made before the arguments are evaluated, and ends last
-  abbrev pub call_with_object : ℕ → Does (List Value) → Does Value
-  call_with_object f arguments = do
-    n ← make 1
-    v ← undone_by (call_into f arguments n) (end_lifetime n)
-    end_lifetime n
-    gives v
-
-  abbrev pub call_giving : ResultKind → ℕ → Does (List Value) → Does Value
-  call_giving scalar_object f arguments = call_with_object f arguments
-  call_giving other f arguments = call_of f arguments None
 
   -- ---- exceptions
 

@@ -12,6 +12,8 @@ pub data Value : Type 0 where
   number : ℤ → Value
   address : Address → Value
   null : Value
+  -- a function of the program, which a pointer to it holds
+  function : (index : ℕ) → Value
   violation : Violation → Value
 
 -- a leaf without a value is unset

@@ -1,5 +1,5 @@
--- The trees of the typed program, one for each production of the profile's grammar: this project's own form of a program whose names are resolved and whose conversions, reads, temporaries, constructions and destructions are explicit.
-use Rattle.std.specs.Prelude.{ℕ, List, Option, ℤ}
+-- The trees of the typed program, one for each production of the profile's grammar: this project's own form of a program whose names are resolved and whose conversions, reads, temporaries, constructions and destructions are explicit. In the trees of a unit functions, classes, globals and assertions go by their index in the unit's tables; in those of a program they have the program's numbers, and a check stands for each assertion.
+use Rattle.std.specs.Prelude.{ℕ, Bool, List, Option, ℤ}
 use Rattle.cx_types.specs.declared.value_type.Scalar.{Scalar}
 use Rattle.cx_core.specs.declared.number.IntegerType.{IntegerType}
 use Rattle.cx_core.specs.declared.number.BinaryOperator.{BinaryOperator}
@@ -7,11 +7,16 @@ use Rattle.cx_core.specs.declared.number.UnaryOperator.{UnaryOperator}
 use Rattle.cx_core.specs.declared.number.Query.{Query}
 use Rattle.cx_core.specs.Words.{AssertionKind, Semantic}
 
--- the type of an object, const aside: what a pointer points to makes no difference to the object
+-- the type of an object, const aside; that of a function by its number in a table
 pub data ObjectType : Type 0 where
   scalar : Scalar → ObjectType
-  pointer : ObjectType
+  pointer : (to : ObjectType) → ObjectType
+  function_pointer : (type : ℕ) → ObjectType
   class : (index : ℕ) → ObjectType
+
+-- what a call through a pointer gives that isn't a class object, by the pointer's type
+pub data PointedResult : Type 0 where
+  void_result scalar_result reference_result : PointedResult
 
 -- a literal, an enumerator, or the first value of a global
 pub data Constant : Type 0 where
@@ -26,6 +31,8 @@ mutual
     variable : (slot : ℕ) → Expr
     global : (index : ℕ) → Expr
     this : Expr
+    -- the name of a function that isn't what is called
+    function_name : (function : ℕ) → Expr
     -- the result name of a postcondition
     result_name : Expr
     -- what initialises a catch parameter: the exception object, which no name names
@@ -47,6 +54,8 @@ mutual
     -- of an object expression, the field that begins at a leaf of it, or the object of a member call at leaf 0
     member : (leaf : ℕ) → Expr → Expr
     call : (function : ℕ) → Args → Expr
+    -- a call of what a pointer holds
+    call_through : PointedResult → Operand → Args → Expr
     temporary : ObjectType → Init → Expr
     putchar : Operand → Expr
     getchar : Expr
@@ -66,6 +75,7 @@ mutual
     zero_first : (class : ℕ) → Init → Init
     -- the object is the result of a call
     result_of : (function : ℕ) → Args → Init
+    result_through : Operand → Args → Init
 
   -- the arguments in order, the object of a member call first: each is bound to a reference, or initialises an object
   pub data Args : Type 0 where
@@ -87,6 +97,10 @@ pub record Check : Type 0 where
   pub assertion : Assertion
   pub semantic : Semantic
   pub times : ℕ
+
+-- a function contract specifier: what stands for its assertion, an index or a check, and its predicate
+pub record Specifier (A : Type 0) : Type 0 where
+  pub of : A
   pub predicate : Operand
 
 -- the parameter of a handler; one that isn't a reference is an object, also without a name
@@ -94,7 +108,7 @@ pub data CatchParameter : Type 0 where
   -- a reference without a name
   unnamed : CatchParameter
   reference : (slot : ℕ) → CatchParameter
-  object : (slot : ℕ) → Init → CatchParameter
+  object : (slot : ℕ) → (is_named : Bool) → Init → CatchParameter
 
 -- the condition of a `for` may be absent
 pub data Condition : Type 0 where
@@ -102,32 +116,33 @@ pub data Condition : Type 0 where
   while : Operand → Condition
 
 mutual
-  pub data Stmt : Type 0 where
-    empty : Stmt
-    -- its value is discarded, and an lvalue isn't read
-    expression : Expr → Stmt
-    variable_declaration : (slot : ℕ) → ObjectType → Init → Stmt
-    reference_declaration : (slot : ℕ) → Expr → Stmt
-    block : Stmts → Stmt
-    if_else : Operand → Stmt → Stmt → Stmt
-    while_loop : Operand → Stmt → Stmt
-    for_loop : (first : Stmt) → Condition → (step : Stmt) → (body : Stmt) → Stmt
-    break : Stmt
-    continue : Stmt
-    return : Stmt
-    return_value : Operand → Stmt
-    return_reference : Expr → Stmt
-    return_object : Init → Stmt
-    contract_assert : Check → Stmt
-    throw : ObjectType → Init → Stmt
-    rethrow : Stmt
-    try : Stmts → Handlers → Stmt
+  -- statements, where an A stands for an assertion
+  pub data Stmt (A : Type 0) : Type 0 where
+    empty : Stmt A
+    -- its value is discarded; what is an lvalue isn't read
+    expression : Operand → Stmt A
+    variable_declaration : (slot : ℕ) → ObjectType → Init → Stmt A
+    reference_declaration : (slot : ℕ) → Expr → Stmt A
+    block : Stmts A → Stmt A
+    if_else : Operand → Stmt A → Stmt A → Stmt A
+    while_loop : Operand → Stmt A → Stmt A
+    for_loop : (first : Stmt A) → Condition → (step : Stmt A) → (body : Stmt A) → Stmt A
+    break : Stmt A
+    continue : Stmt A
+    return : Stmt A
+    return_value : Operand → Stmt A
+    return_reference : Expr → Stmt A
+    return_object : Init → Stmt A
+    contract_assert : A → (predicate : Operand) → Stmt A
+    throw : ObjectType → Init → Stmt A
+    rethrow : Stmt A
+    try : Stmts A → Handlers A → Stmt A
 
-  pub data Stmts : Type 0 where
-    done : Stmts
-    next : Stmt → Stmts → Stmts
+  pub data Stmts (A : Type 0) : Type 0 where
+    done : Stmts A
+    next : Stmt A → Stmts A → Stmts A
 
-  pub data Handlers : Type 0 where
-    none : Handlers
-    catch_all : Stmts → Handlers → Handlers
-    catch : ObjectType → CatchParameter → Stmts → Handlers → Handlers
+  pub data Handlers (A : Type 0) : Type 0 where
+    none : Handlers A
+    catch_all : Stmts A → Handlers A → Handlers A
+    catch : ObjectType → CatchParameter → Stmts A → Handlers A → Handlers A

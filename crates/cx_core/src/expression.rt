@@ -9,6 +9,14 @@ pub enum Constant {
     Nullptr,
 }
 
+/// What a call through a pointer gives that isn't a class object, by the pointer's type.
+#[derive(Clone, Copy, Debug, PartialEq, Eq)]
+pub enum PointedResult {
+    Void,
+    Scalar,
+    Reference,
+}
+
 /// An expression [expr], its names resolved and its conversions explicit: each variant is a production of the grammar.
 ///
 /// An lvalue and a class object give their place, any other expression its value. Slots number the parameters of a
@@ -22,6 +30,8 @@ pub enum Expression {
     Variable(u32),
     Global(u32),
     This,
+    /// The name of a function that isn't what is called.
+    FunctionName(u32),
     /// The result name of a postcondition [dcl.contract.res].
     ResultName,
     /// The exception object, as the initialiser of a catch parameter [except.handle].
@@ -45,6 +55,8 @@ pub enum Expression {
     Member(u32, Box<Expression>),
     /// A call of a function, with the object of a member call as its first argument.
     Call(u32, Vec<Argument>),
+    /// A call of the function that a pointer holds.
+    CallThrough(PointedResult, Box<Operand>, Vec<Argument>),
     Temporary(ValueType, Box<Initializer>),
     Putchar(Box<Operand>),
     Getchar,
@@ -75,6 +87,8 @@ pub enum Initializer {
     ZeroFirst(u32, Box<Initializer>),
     /// The object is the result object of a call.
     ResultOf(u32, Vec<Argument>),
+    /// The same of a call through a pointer.
+    ResultThrough(Box<Operand>, Vec<Argument>),
 }
 
 /// An argument: bound to a reference, or the initialiser of a parameter of the type.

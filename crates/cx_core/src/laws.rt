@@ -1,5 +1,5 @@
 //! Laws of the meaning. Each function does nothing: its contract is the law.
-ghost use Rattle.cx_core.specs.Row.{TakenAreTheRows};
+ghost use Rattle.cx_core.specs.Block.{TakenAreTheRows};
 ghost use Rattle.cx_core.specs.Laws.{BeginsAreTheFirstTold, InputIsReadInOrder, NoBudgetSaysNothing, LargerBudgetChangesNoEnding, LargerBudgetOnlyAddsEvents, ObjectsStayNumbered};
 
 /// The evaluations that a run begins are the first of those that it is told.

@@ -9,10 +9,10 @@ mod statement;
 mod unit;
 
 pub use choice::{Calls, Choice};
-pub use expression::{Argument, Constant, Expression, Initializer, Operand};
+pub use expression::{Argument, Constant, Expression, Initializer, Operand, PointedResult};
 pub use number::{BinaryOperator, IntegerType, Query, UnaryOperator};
 pub use statement::{CatchParameter, Handler, Statement};
 pub use unit::{
     Assertion, Body, CallPlace, CallSite, Class, ClassDefinition, CoreUnit, Field,
-    FieldInitializer, Function, Global, LeafKind, ResultKind, Specifier,
+    FieldInitializer, Function, FunctionType, Global, LeafKind, ResultKind, Specifier,
 };

@@ -6,8 +6,8 @@ use cx_types::ValueType;
 #[derive(Drop)]
 pub enum Statement {
     Empty,
-    /// A discarded-value expression.
-    Expression(Expression),
+    /// A discarded-value expression, which is read unless it is an lvalue.
+    Expression(Operand),
     /// A variable that isn't a reference, in its slot.
     Variable(u32, ValueType, Initializer),
     Reference(u32, Expression),
@@ -47,6 +47,6 @@ pub enum CatchParameter {
     Unnamed,
     /// A reference to the exception object.
     Reference(u32),
-    /// An object of its own, initialised from the exception object.
-    Object(u32, Initializer),
+    /// An object of its own, with a name or without one, initialised from the exception object.
+    Object(u32, bool, Initializer),
 }

@@ -11,6 +11,10 @@ pub struct CoreUnit {
     pub globals: Items<Global>,
     /// Each function that the unit declares, names or needs, with its first declaration in the unit.
     pub functions: Items<Function>,
+    /// The types of these functions and of those that its pointers hold, equal ones once.
+    pub function_types: Items<FunctionType>,
+    /// The functions that it defines, in order of place.
+    pub definitions: Items<u32>,
     pub assertions: Items<Assertion>,
     /// In order of place.
     pub calls: Items<CallSite>,
@@ -19,7 +23,7 @@ pub struct CoreUnit {
     pub bytes: u32,
 }
 
-/// A call that stands in the unit.
+/// A call of a function by its name, or of a constructor, that stands in the unit.
 #[derive(Clone, Copy, Debug, PartialEq, Eq)]
 pub struct CallSite {
     /// The function that is called.
@@ -78,11 +82,21 @@ pub enum LeafKind {
 #[derive(Drop)]
 pub struct Global {
     pub name: Text,
-    /// Its type, which linking compares.
+    pub of: ValueType,
+    /// How its type is written, which linking compares.
     pub type_text: Text,
     /// An expression of the unit names it.
     pub is_named: bool,
     pub value: Option<Constant>,
+}
+
+/// A function's type [dcl.fct]: its result and its parameters, without their own `const`, `this` and `noexcept`.
+#[derive(Drop)]
+pub struct FunctionType {
+    /// How it is written, its tokens with one space between two, with classes by their names: the same in all units.
+    pub text: Text,
+    pub result: ValueType,
+    pub parameters: Items<ValueType>,
 }
 
 /// A function, member function, constructor or destructor.
@@ -90,6 +104,8 @@ pub struct Global {
 pub struct Function {
     /// As assertions name it: `f`, `T::f`, `T::f.const`, `T::T`, `T::T.copy` or `T::~T`.
     pub name: Text,
+    /// The index of its type.
+    pub of: u32,
     /// Its signature, and the specifiers of its first declaration with a mark for each parameter and result name:
     /// linking compares them.
     pub signature: Text,
@@ -148,7 +164,6 @@ pub struct Assertion {
 #[derive(Drop)]
 pub enum Body {
     Function(Vec<Statement>),
-    ViolationHandler(Vec<Statement>),
     Constructor(Vec<FieldInitializer>, Vec<Statement>),
     /// Of the class with this index, as are the implicit ones.
     Destructor(u32, Vec<Statement>),

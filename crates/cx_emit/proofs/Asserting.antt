@@ -22,7 +22,7 @@ use Rattle.cx_core.specs.Check as check
 use Rattle.cx_simulation.specs.Machine.{goes, noted, begun, begins_ahead}
 use Rattle.cx_simulation.specs.ImageMachine.{progress, image_step}
 use Rattle.cx_simulation.specs.Parts.{Account, Follows, StepsTo}
-use Rattle.cx_simulation.proofs.Parts.{follows_then, follows_less, follows_one, follows_gives, follows_step, told_on}
+use Rattle.cx_simulation.proofs.Parts.{follows_then, follows_less, follows_one, follows_unit, follows_gives, follows_step, told_on}
 use Rattle.cx_emit.specs.Configuration.{running_at, operation_at, Has, Agrees, AreKept, IsAt}
 use Rattle.cx_emit.specs.Checks.{IsAssertion, HaveDefaultHandler, GoesOn, StandsViolated}
 use Rattle.cx_emit.proofs.Places.{all_kept, kept_on}
@@ -98,10 +98,10 @@ module _ (image : Image) (function : ℕ) where
     choose h x y e = ap (λ k. if k == 0 then x else y) e
 
     -- the default handler is called
-    handled_step : (mode : DetectionMode) (semantic : Semantic) (from to : ℕ) → Has image function from (does.Violate index mode semantic) to → (operands : List Value) (s : source.State) (m : State) → Agrees function s m
-        → StepsTo (image_step image) s (running_at m from operands) (λ d. IsAt function to operands s m d (record s { trace = handler (check.violation_of a mode semantic) ∷ s.trace })) (record s { trace = handler (check.violation_of a mode semantic) ∷ s.trace })
-    handled_step mode semantic from to h operands s m agrees =
-        step_to s (record s { trace = handler (check.violation_of a mode semantic) ∷ s.trace }) m (record m { violations = m.violations ++ violation_made ∷ [] }) from (from + 1) to operands operands (Some (handler (check.violation_of a mode semantic))) h.next
+    handled_step : (mode : DetectionMode) (semantic : Semantic) (from to : ℕ) → Has image function from (does.Violate index mode semantic) to → (operands : List Value) (s : source.State) (m : State) → Agrees function s m → (budget : ℕ)
+        → StepsTo (image_step image) (record s { budget = budget }) (running_at m from operands) (λ d. IsAt function to operands s m d (record s { budget = budget; trace = handler (check.violation_of a mode semantic) ∷ s.trace })) (record s { budget = budget; trace = handler (check.violation_of a mode semantic) ∷ s.trace })
+    handled_step mode semantic from to h operands s m agrees budget =
+        step_to (record s { budget = budget }) (record s { budget = budget; trace = handler (check.violation_of a mode semantic) ∷ s.trace }) m (record m { violations = m.violations ++ violation_made ∷ [] }) from (from + 1) to operands operands (Some (handler (check.violation_of a mode semantic))) h.next
         (at s m from operands (does.Violate index mode semantic) agrees h.here ∙ ap (λ x. progress image x) (choose image.handler _ _ default.in_image) ∙ ap (λ v. goes (running_at (record m { violations = m.violations ++ violation_made ∷ [] }) (from + 1) operands) (Some (handler v))) (is.same_violation mode semantic))
         refl refl refl
         (record { in_function = agrees.in_function; same_store = agrees.same_store; same_next = agrees.same_next; same_input = agrees.same_input; same_names = agrees.same_names }) s
@@ -128,9 +128,9 @@ module _ (image : Image) (function : ℕ) where
     handled_then mode semantic from p to h rest more n operands s m agrees told =
         subst (λ o. Follows (image_step image) n s (running_at m from operands) (account 0 2 2) (λ (_ : Nothing) d t. IsAt function to operands s m d t) (Never s m) (either (check.handle_by program calls o (check.violation_of a mode semantic)) (λ _. rest) throws s)) (sym default.in_program)
         (follows_then (image_step image) n s (running_at m from operands) (account 0 1 1) (account 0 1 1) (account 0 2 2) (λ (_ : Nothing) d t. IsAt function p operands s m d t) (λ (_ : Nothing) d t. IsAt function to operands s m d t) (Never s m)
-        (append (handler (check.violation_of a mode semantic))) (λ _. rest) (record { goes_on = omega arith; left_first = omega arith; left_second = omega arith; in_hand = omega arith })
-        (follows_one (image_step image) n s (running_at m from operands) (account 0 1 1) (λ (_ : Nothing) d t. IsAt function p operands s m d t) (Never s m) (append (handler (check.violation_of a mode semantic)) s) (omega arith) (omega arith) told
-        (handled_step mode semantic from p h operands s m agrees))
+        (either spend (λ _. append (handler (check.violation_of a mode semantic))) throws) (λ _. rest) (record { goes_on = omega arith; left_first = omega arith; left_second = omega arith; in_hand = omega arith })
+        (follows_unit (image_step image) n s (running_at m from operands) (account 0 1 1) (λ (_ : Nothing) d t. IsAt function p operands s m d t) (Never s m) (append (handler (check.violation_of a mode semantic))) (omega arith) told
+        (λ budget. handled_step mode semantic from p h operands s m agrees budget))
         (λ _ t d k g told. from_place (λ s m (_ : Nothing) d t. IsAt function to operands s m d t) (λ s t m d kept _ e u x. is_at_on function to operands s t m d kept e u x) p operands s t m d k (account 0 1 1) (rest t) g told
         (λ agrees told. more k operands t g.machine agrees told)))
 

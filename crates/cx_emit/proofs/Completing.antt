@@ -2,7 +2,7 @@
 use Rattle.std.proofs.Common.{◌≡◌, ℕ, List, [], ◌∷◌, false, refl, ap, ◌∙◌, sym, subst, arith}
 use Rattle.cx_code.specs.declared.image.Image.{Image}
 use Rattle.cx_code.specs.State.{State}
-use Rattle.cx_core.specs.Tree.{Stmt, variable_declaration}
+use Rattle.cx_core.specs.Tree.{Stmt, variable_declaration, Check}
 use Rattle.cx_core.specs.Store as store
 use Rattle.cx_core.specs.Outcome as source
 use Rattle.cx_core.specs.Outcome.{Does, Nothing}
@@ -136,17 +136,17 @@ module _ (image : Image) (function : ℕ) where
 
   -- ---- what a statement declares
 
-  pub undeclared : (a : Stmt) (now : List ℕ) → declares a ≡ false → behind a now ≡ now
+  pub undeclared : (a : Stmt Check) (now : List ℕ) → declares a ≡ false → behind a now ≡ now
   undeclared (variable_declaration slot type init) now e = absurd cc
   undeclared other now e = refl
 
   -- what is left as it was behind the statement was so before it
-  pub left_before : (a : Stmt) (now : List ℕ) (scopes : List (List ℕ)) (s t : source.State) (m d : State) → AreLeft (behind a now ∷ scopes) s m t d → AreLeft (now ∷ scopes) s m t d
+  pub left_before : (a : Stmt Check) (now : List ℕ) (scopes : List (List ℕ)) (s t : source.State) (m d : State) → AreLeft (behind a now ∷ scopes) s m t d → AreLeft (now ∷ scopes) s m t d
   left_before (variable_declaration slot type init) now scopes s t m d k =
       record { same_slots = (k.same_slots.0.1, k.same_slots.1); same_below = k.same_below; more_numbers = k.more_numbers; still_alive = k.still_alive }
   left_before other now scopes s t m d k = k
 
-  pub completed_before : (a : Stmt) (first : ℕ) (now : List ℕ) (scopes : List (List ℕ)) (last : List ℕ) (Wants : Completion → ℕ → Type 0) (s t u : source.State) (m d e : State) (c : Completion) → AreLeft (now ∷ scopes) s m t d
+  pub completed_before : (a : Stmt Check) (first : ℕ) (now : List ℕ) (scopes : List (List ℕ)) (last : List ℕ) (Wants : Completion → ℕ → Type 0) (s t u : source.State) (m d e : State) (c : Completion) → AreLeft (now ∷ scopes) s m t d
       → Completed image function first (behind a now ∷ scopes) last Wants t d c e u → Completed image function first (now ∷ scopes) last Wants s m c e u
   completed_before a first now scopes last Wants s t u m d e c k g =
       record { machine = g.machine; place = g.place; operands = g.operands; is_there = g.is_there; carried = g.carried; wanted = g.wanted; is_in = g.is_in; left = left_on (now ∷ scopes) s t u m d g.machine k (left_before a now scopes t u d g.machine g.left) }

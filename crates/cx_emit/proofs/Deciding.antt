@@ -56,6 +56,7 @@ module _ (image : Image) (function : ℕ) (Fly : source.State → State → sour
   truth_steps from to h operands s m a (number x) w is = truth_step from to h operands s m a w (not (int_eq x (pos 0))) (ap (value_as scalars.Bool) is)
   truth_steps from to h operands s m a (address x) w is = truth_step from to h operands s m a w true (ap (value_as scalars.Bool) is)
   truth_steps from to h operands s m a null w is = truth_step from to h operands s m a w false (ap (value_as scalars.Bool) is)
+  truth_steps from to h operands s m a (store.function x) w is = absurd is
   truth_steps from to h operands s m a (violation x) w is = absurd is
 
   pub judges_follows : (part : Does store.Value) (from p q : ℕ) → Valued image function Fly of_operand part from p → Has image function p (does.Convert scalars.Bool) q

@@ -12,12 +12,12 @@ use Rattle.cx_code.specs.Store as memory
 use Rattle.cx_code.specs.State.{State}
 use Rattle.cx_code.specs.Act as machine
 use Rattle.cx_code.specs.Act.{next, on_slot, on_some, mixed}
-use Rattle.cx_core.specs.Tree.{ObjectType, scalar, pointer, class, Operand, value}
+use Rattle.cx_core.specs.Tree.{ObjectType, scalar, pointer, function_pointer, class, Operand, value}
 use Rattle.cx_core.specs.Program.{Program}
 use Rattle.cx_core.specs.Store as store
 use Rattle.cx_core.specs.Store.{Store, address, leaves_of}
 use Rattle.cx_core.specs.Outcome as source
-use Rattle.cx_core.specs.Outcome.{Outcome, on, over, Does, Nothing, nothing, Living, whole, after, either, gives, throws, make, write, current_frame, set_frame, current_living, set_living, keep, end_lifetime}
+use Rattle.cx_core.specs.Outcome.{Outcome, on, over, Does, Nothing, nothing, Living, whole, after, either, gives, throws, spend, spend_of, add, make, write, current_frame, set_frame, current_living, set_living, keep, end_lifetime}
 use Rattle.cx_core.specs.Leaving.{Calls, leaves_of_type, full_expression}
 use Rattle.cx_core.specs.Operators.{denoted, bind}
 use Rattle.cx_core.specs.Statements.{Completion, on_to_next, variable_of}
@@ -26,7 +26,7 @@ use Rattle.cx_core.proofs.Numbered.{free_above, numbered_above}
 use Rattle.cx_simulation.specs.Machine.{goes, begins_ahead}
 use Rattle.cx_simulation.specs.ImageMachine.{progress, image_step}
 use Rattle.cx_simulation.specs.Parts.{Follows}
-use Rattle.cx_simulation.proofs.Parts.{follows_then, follows_less, follows_from, follows_one, follows_step, told_on}
+use Rattle.cx_simulation.proofs.Parts.{follows_then, follows_less, follows_from, follows_one, follows_spend, follows_step, told_on}
 use Rattle.cx_simulation.proofs.Changes.{follows_changes}
 use Rattle.cx_emit.specs.Values.{IsValue}
 use Rattle.cx_emit.specs.Configuration.{running_at, AreNamed, Gives}
@@ -90,10 +90,11 @@ alive_more store n k h alive = elim (eqb_tells n k) [ inl e ↦ absurd (omega (a
 
 module _ (image : Image) (function : ℕ) (program : Program) (calls : Calls) (scopes : List (List ℕ)) (slot : ℕ) (type : ObjectType) (simple : IsSimple type) (a : Operand) (from to : ℕ) (st : StandsDeclaration image function scopes slot a from to) where
   module _ (s : source.State) (m : State) (r : IsReady image function s m) where
-    -- where the object is made and its name bound
-    bound : source.State
-    bound = record s {
+    -- where the object is made and its name bound, with so many units left
+    bound : ℕ → source.State
+    bound left = record s {
       temporaries = [];
+      budget = left;
       next = suc s.next;
       store = record { number = s.next; leaves = None ∷ [] } ∷ s.store;
       frame = record (s.frame) { variables = (slot, address (record { object = s.next; leaf = 0 })) ∷ (s.frame).variables };
@@ -105,9 +106,9 @@ module _ (image : Image) (function : ℕ) (program : Program) (calls : Calls) (s
     is_within : slot < length (m.frame).slots
     is_within = omega (arith, st.is_slot, r.has_slots)
 
-    bound_ready : IsReady image function bound with_object
+    bound_ready : (left : ℕ) → IsReady image function (bound left) with_object
     unfolding bound with_object
-    bound_ready = record {
+    bound_ready left = record {
       agrees = record {
         in_function = (r.agrees).in_function;
         same_store = made_alike s.store m.store s.next (r.agrees).same_next (r.agrees).same_store;
@@ -131,7 +132,7 @@ module _ (image : Image) (function : ℕ) (program : Program) (calls : Calls) (s
     gets_so : image_step image (running_at with_object st.made []) ≡ goes (running_at with_object st.placed (values.Address s.next 0 ∷ [])) None
     unfolding with_object
     gets_so =
-        at image function bound with_object st.made [] (does.Get slot) (bound_ready).agrees (st.gets).here
+        at image function (bound 0) with_object st.made [] (does.Get slot) (bound_ready 0).agrees (st.gets).here
         ∙ ap (λ x. progress image (on_slot x (λ value. next (running_at with_object st.made []) (value ∷ [])))) (get_itself (m.frame).slots slot (Some (values.Address s.next 0)) is_within)
         ∙ ap (λ p. goes (running_at with_object p (values.Address s.next 0 ∷ [])) None) (sym (st.gets).next)
 
@@ -139,31 +140,29 @@ module _ (image : Image) (function : ℕ) (program : Program) (calls : Calls) (s
     the_place = record { object = s.next; leaf = 0 }
 
     -- the value is stored
-    stored_follows : (v : store.Value) (t : source.State) (d : State) (k : ℕ) → Gives function st.valued (values.Address s.next 0 ∷ []) bound with_object v d t → t.begins ≡ begins_ahead (image_step image) k d
-        → Follows (image_step image) k t d (account 0 1 1) (λ (_ : Nothing) e u. Written image function to bound with_object e u) (Never bound with_object) (write the_place (Some v) t)
+    stored_follows : (left : ℕ) (v : store.Value) (t : source.State) (d : State) (k : ℕ) → Gives function st.valued (values.Address s.next 0 ∷ []) (bound left) with_object v d t → t.begins ≡ begins_ahead (image_step image) k d
+        → Follows (image_step image) k t d (account 0 1 1) (λ (_ : Nothing) e u. Written image function to (bound left) with_object e u) (Never (bound left) with_object) (write the_place (Some v) t)
     unfolding the_place
-    stored_follows v t d k g told =
-        subst (λ d. Follows (image_step image) k t d (account 0 1 1) (λ (_ : Nothing) e u. Written image function to bound with_object e u) (Never bound with_object) (write the_place (Some v) t)) (sym g.is_there)
-        (follows_less (image_step image) k t (running_at g.machine st.valued (g.value ∷ values.Address s.next 0 ∷ [])) (account 0 1 1) (account 0 1 1) (λ (_ : Nothing) e u. Written image function to t g.machine e u) (λ (_ : Nothing) e u. Written image function to bound with_object e u)
-        (Never t g.machine) (Never bound with_object) _ (record { goes_on = omega arith; left = omega arith; in_hand = omega arith }) (λ _ e u b. written_on image function to bound t u with_object g.machine e g.kept b) (λ x y z f. f)
+    stored_follows left v t d k g told =
+        subst (λ d. Follows (image_step image) k t d (account 0 1 1) (λ (_ : Nothing) e u. Written image function to (bound left) with_object e u) (Never (bound left) with_object) (write the_place (Some v) t)) (sym g.is_there)
+        (follows_less (image_step image) k t (running_at g.machine st.valued (g.value ∷ values.Address s.next 0 ∷ [])) (account 0 1 1) (account 0 1 1) (λ (_ : Nothing) e u. Written image function to t g.machine e u) (λ (_ : Nothing) e u. Written image function to (bound left) with_object e u)
+        (Never t g.machine) (Never (bound left) with_object) _ (record { goes_on = omega arith; left = omega arith; in_hand = omega arith }) (λ _ e u b. written_on image function to (bound left) t u with_object g.machine e g.kept b) (λ x y z f. f)
         (follows_one (image_step image) k t (running_at g.machine st.valued (g.value ∷ values.Address s.next 0 ∷ [])) (account 0 1 1) (λ (_ : Nothing) e u. Written image function to t g.machine e u) (Never t g.machine) _ (omega arith) (omega arith)
         (told ∙ ap (begins_ahead (image_step image) k) g.is_there)
-        (write_steps image function nothing (λ o. o) (λ t. refl) (λ answer trace. refl) t g.machine (kept_ready image function bound t with_object g.machine bound_ready g.kept g.agrees) t.budget st.valued to st.stores v g.value g.same_value the_place)))
+        (write_steps image function nothing (λ o. o) (λ t. refl) (λ answer trace. refl) t g.machine (kept_ready image function (bound left) t with_object g.machine (bound_ready left) g.kept g.agrees) t.budget st.valued to st.stores v g.value g.same_value the_place)))
 
-    -- the object is made, then the value is evaluated and stored
-    made_follows : (n : ℕ) → s.begins ≡ begins_ahead (image_step image) n (running_at m from [])
-        → Follows (image_step image) n bound (running_at m from []) of_completion (λ (_ : Nothing) d t. Written image function to bound with_object d t) (Never bound with_object) (either (used program calls a) (λ v. write the_place (Some v)) throws bound)
+    -- behind the object's unit the value is evaluated and stored
+    valued_follows : (left n : ℕ) → s.begins ≡ begins_ahead (image_step image) n (running_at with_object st.made [])
+        → Follows (image_step image) n (bound left) (running_at with_object st.made []) (account 2 0 1) (λ (_ : Nothing) d t. Written image function to (bound left) with_object d t) (Never (bound left) with_object) (either (used program calls a) (λ v. write the_place (Some v)) throws (bound left))
     unfolding bound
-    made_follows n told =
-        let told_made : s.begins ≡ begins_ahead (image_step image) (n - 1) (running_at with_object st.made []) = told_on (image_step image) n (running_at m from []) (running_at with_object st.made []) None s.begins s.begins makes_so told refl in
-        let told_placed : s.begins ≡ begins_ahead (image_step image) (n - 1 - 1) (running_at with_object st.placed (values.Address s.next 0 ∷ [])) =
-        told_on (image_step image) (n - 1) (running_at with_object st.made []) (running_at with_object st.placed (values.Address s.next 0 ∷ [])) None s.begins s.begins gets_so told_made refl in
-        follows_step (image_step image) n bound (running_at m from []) (running_at with_object st.made []) (account 2 0 1) of_completion (λ (_ : Nothing) d t. Written image function to bound with_object d t) (Never bound with_object) _ makes_so (omega arith) (omega arith) (omega arith)
-        (follows_step (image_step image) (n - 1) bound (running_at with_object st.made []) (running_at with_object st.placed (values.Address s.next 0 ∷ [])) (account 3 0 0) (account 2 0 1) (λ (_ : Nothing) d t. Written image function to bound with_object d t) (Never bound with_object) _ gets_so (omega arith) (omega arith) (omega arith)
-        (follows_then (image_step image) (n - 1 - 1) bound (running_at with_object st.placed (values.Address s.next 0 ∷ [])) of_operand (account 0 1 1) (account 3 0 0) (Gives function st.valued (values.Address s.next 0 ∷ []) bound with_object) (λ (_ : Nothing) d t. Written image function to bound with_object d t) (Never bound with_object)
+    valued_follows left n told =
+        let told_placed : s.begins ≡ begins_ahead (image_step image) (n - 1) (running_at with_object st.placed (values.Address s.next 0 ∷ [])) =
+        told_on (image_step image) n (running_at with_object st.made []) (running_at with_object st.placed (values.Address s.next 0 ∷ [])) None s.begins s.begins gets_so told refl in
+        follows_step (image_step image) n (bound left) (running_at with_object st.made []) (running_at with_object st.placed (values.Address s.next 0 ∷ [])) (account 3 0 0) (account 2 0 1) (λ (_ : Nothing) d t. Written image function to (bound left) with_object d t) (Never (bound left) with_object) _ gets_so (omega arith) (omega arith) (omega arith)
+        (follows_then (image_step image) (n - 1) (bound left) (running_at with_object st.placed (values.Address s.next 0 ∷ [])) of_operand (account 0 1 1) (account 3 0 0) (Gives function st.valued (values.Address s.next 0 ∷ []) (bound left) with_object) (λ (_ : Nothing) d t. Written image function to (bound left) with_object d t) (Never (bound left) with_object)
         (used program calls a) (λ v. write the_place (Some v)) (record { goes_on = omega arith; left_first = omega arith; left_second = omega arith; in_hand = omega arith })
-        (used_follows image function Never never_on program calls a st.placed st.valued st.stands (n - 1 - 1) (values.Address s.next 0 ∷ []) bound with_object (bound_ready).agrees told_placed)
-        (λ v t d k g told. stored_follows v t d k g told)))
+        (used_follows image function Never never_on program calls a st.placed st.valued st.stands (n - 1) (values.Address s.next 0 ∷ []) (bound left) with_object (bound_ready left).agrees told_placed)
+        (λ v t d k g told. stored_follows left v t d k g told))
 
     -- ---- what is so behind the declaration
 
@@ -174,10 +173,10 @@ module _ (image : Image) (function : ℕ) (program : Program) (calls : Calls) (s
       unused : IsUnused slot (now ∷ outer)
       unused = subst (IsUnused slot) same_scopes st.is_unused
 
-      declared : (t : source.State) (d : State) → Written image function to bound with_object d t
+      declared : (left : ℕ) (t : source.State) (d : State) → Written image function to (bound left) with_object d t
           → Completed image function first (now ∷ outer) (slot ∷ now) Wants s m on_to_next d (record t { living = the_variable ∷ t.living; temporaries = s.temporaries })
       unfolding bound with_object the_variable
-      declared t d g =
+      declared left t d g =
           record {
             machine = g.machine;
             place = to;
@@ -208,32 +207,59 @@ module _ (image : Image) (function : ℕ) (program : Program) (calls : Calls) (s
             };
           }
 
-      -- what is done with the one leaf
+      -- what is done with the object of this number
+      abbrev made_object : ℕ → Does ℕ
+      made_object n =
+          either (either (either (bind slot (address (record { object = n; leaf = 0 }))) (λ _. init program calls (value a) (record { object = n; leaf = 0 })) throws) gives (λ e. either (end_lifetime n) (λ _. throws e) throws))
+          (λ _. either (keep (whole n type)) (λ _. gives n) throws) throws
+
       abbrev objects : ℕ → Does ℕ
-      objects leaves =
-          either (make leaves)
-          (λ n. either (either (either (bind slot (address (record { object = n; leaf = 0 }))) (λ _. init program calls (value a) (record { object = n; leaf = 0 })) throws) gives (λ e. either (end_lifetime n) (λ _. throws e) throws))
-          (λ _. either (keep (whole n type)) (λ _. gives n) throws) throws) throws
+      objects leaves = either (make leaves) made_object throws
+
+      -- what is done behind its unit
+      behind_unit : Does Nothing
+      behind_unit = either (either (add 1) made_object throws) (λ _. gives nothing) throws
+
+      unit_first : (t : source.State) → either (either (gives 1) objects throws) (λ _. gives nothing) throws t ≡ either spend (λ _. behind_unit) throws t
+      unfolding either gives throws spend behind_unit
+      unit_first t = by_left t.budget
+        where
+          by_left : (left : ℕ) → after (after (after (spend_of left t) (λ _. add 1) throws) made_object throws) (λ _. gives nothing) throws ≡ after (spend_of left t) (λ _. behind_unit) throws
+          by_left zero = refl
+          by_left (suc zero) = refl
+          by_left (suc (suc left)) = refl
+
+      abbrev Declares : State → source.State → Type 0
+      Declares d t = (t.temporaries ≡ []) × Completed image function first (now ∷ outer) (slot ∷ now) Wants s m on_to_next d (record t { temporaries = s.temporaries })
+
+      -- the object is made, and its unit is paid by that
+      behind_unit_follows : (left n : ℕ) → s.begins ≡ begins_ahead (image_step image) n (running_at with_object st.made [])
+          → Follows (image_step image) n (record s { temporaries = []; budget = left }) (running_at with_object st.made []) (account 2 0 1) (λ (_ : Nothing) d t. Declares d t) (λ e d t. ⊥) (behind_unit (record s { temporaries = []; budget = left }))
+      unfolding init either gives throws add current_frame set_frame current_living set_living bound the_place the_variable behind_unit
+      behind_unit_follows left n told =
+          follows_from (image_step image) n (record s { temporaries = []; budget = left }) (bound left) (running_at with_object st.made []) (account 2 0 1) (λ (_ : Nothing) d t. Declares d t) (λ e d t. ⊥) _ refl refl
+          (follows_changes (image_step image) n (bound left) (running_at with_object st.made []) (account 2 0 1) (λ (_ : Nothing) d t. Written image function to (bound left) with_object d t) (λ (_ : Nothing) d t. Declares d t)
+          (λ r. after (after (after r gives (λ e. either (end_lifetime s.next) (λ _. throws e) throws)) (λ _. either (keep (whole s.next type)) (λ _. gives s.next) throws) throws) (λ _. gives nothing) throws)
+          (either (used program calls a) (λ v. write the_place (Some v)) throws (bound left))
+          (λ answer trace. refl)
+          (λ _ t d g. (nothing, record t { living = whole s.next type ∷ t.living }, refl, refl, refl, refl, (g.same_temporaries, declared left t d g)))
+          (valued_follows left n told))
 
       one_leaf_follows : (n : ℕ) → s.begins ≡ begins_ahead (image_step image) n (running_at m from [])
           → Follows (image_step image) n s (running_at m from []) of_completion (λ (_ : Nothing) d t. Completed image function first (now ∷ outer) (slot ∷ now) Wants s m on_to_next d t) (Never s m) (full_expression program calls (either (either (gives 1) objects throws) (λ _. gives nothing) throws) s)
-      unfolding init either gives throws make current_frame set_frame current_living set_living bound the_place the_variable
       one_leaf_follows n told =
           full_changes (image_step image) program calls (either (either (gives 1) objects throws) (λ _. gives nothing) throws) n s (running_at m from []) of_completion
-          (λ (_ : Nothing) d t. (t.temporaries ≡ []) × Completed image function first (now ∷ outer) (slot ∷ now) Wants s m on_to_next d (record t { temporaries = s.temporaries })) (λ (_ : Nothing) d t. Completed image function first (now ∷ outer) (slot ∷ now) Wants s m on_to_next d t)
+          (λ (_ : Nothing) d t. Declares d t) (λ (_ : Nothing) d t. Completed image function first (now ∷ outer) (slot ∷ now) Wants s m on_to_next d t)
           (λ _ t d p. p)
-          (follows_from (image_step image) n (record s { temporaries = [] }) bound (running_at m from []) of_completion (λ (_ : Nothing) d t. (t.temporaries ≡ []) × Completed image function first (now ∷ outer) (slot ∷ now) Wants s m on_to_next d (record t { temporaries = s.temporaries })) (λ e d t. ⊥) _ refl refl
-          (follows_changes (image_step image) n bound (running_at m from []) of_completion (λ (_ : Nothing) d t. Written image function to bound with_object d t)
-          (λ (_ : Nothing) d t. (t.temporaries ≡ []) × Completed image function first (now ∷ outer) (slot ∷ now) Wants s m on_to_next d (record t { temporaries = s.temporaries }))
-          (λ r. after (after (after r gives (λ e. either (end_lifetime s.next) (λ _. throws e) throws)) (λ _. either (keep (whole s.next type)) (λ _. gives s.next) throws) throws) (λ _. gives nothing) throws)
-          (either (used program calls a) (λ v. write the_place (Some v)) throws bound)
-          (λ answer trace. refl)
-          (λ _ t d g. (nothing, record t { living = whole s.next type ∷ t.living }, refl, refl, refl, refl, (g.same_temporaries, declared t d g)))
-          (made_follows n told)))
+          (subst (Follows (image_step image) n (record s { temporaries = [] }) (running_at m from []) of_completion (λ (_ : Nothing) d t. Declares d t) (λ e d t. ⊥)) (sym (unit_first (record s { temporaries = [] })))
+          (follows_step (image_step image) n (record s { temporaries = [] }) (running_at m from []) (running_at with_object st.made []) (record { saves = 1; owes = 0; late = 0; hand = 1 }) of_completion (λ (_ : Nothing) d t. Declares d t) (λ e d t. ⊥) _ makes_so (omega arith) (omega arith) (omega arith)
+          (follows_spend (image_step image) (n - 1) (record s { temporaries = [] }) (running_at with_object st.made []) (account 2 0 1) 1 0 (λ (_ : Nothing) d t. Declares d t) (λ e d t. ⊥) behind_unit (omega arith) (omega arith)
+          (λ left _. behind_unit_follows left (n - 1) (told_on (image_step image) n (running_at m from []) (running_at with_object st.made []) None s.begins s.begins makes_so told refl)))))
 
       one_leaf : (type : ObjectType) → IsSimple type → leaves_of_type program calls type ≡ gives 1
       one_leaf (scalar t) h = refl
-      one_leaf pointer h = refl
+      one_leaf (pointer t) h = refl
+      one_leaf (function_pointer t) h = refl
       one_leaf (class c) h = absurd h
 
       pub declaration_follows : (n : ℕ) → s.begins ≡ begins_ahead (image_step image) n (running_at m from [])

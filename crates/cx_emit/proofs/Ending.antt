@@ -9,7 +9,7 @@ use Rattle.cx_code.specs.declared.run.Value.TheVariants as values
 use Rattle.cx_code.specs.Store as memory
 use Rattle.cx_code.specs.State.{State}
 use Rattle.cx_code.specs.Act.{next, on_slot, on_some, undefined, with_store}
-use Rattle.cx_core.specs.Tree.{ObjectType, scalar, pointer, class}
+use Rattle.cx_core.specs.Tree.{ObjectType, scalar, pointer, function_pointer, class}
 use Rattle.cx_core.specs.Program.{Program}
 use Rattle.cx_core.specs.Store.{without}
 use Rattle.cx_core.specs.Outcome as source
@@ -28,7 +28,7 @@ use Rattle.cx_emit.proofs.Asserting.{Never, at}
 use Rattle.cx_emit.proofs.Objects.{IsAlive, ended_alike, lives_alike, without_other}
 use Rattle.cx_emit.proofs.Scopes.{IsSimple, AllSame, all_same, Lives, lives_on, IsReady, IsIn, Completed, Departed}
 
--- a statement asks for no more steps than its units pay for, but for what comes before its first unit: the jump to a loop, the making of an object
+-- a statement asks for no more steps than its units pay for, but for what comes before its first unit: the jump to a loop, the making of an object, the emptying of a slot
 abbrev pub of_completion : Account
 of_completion = account 0 0 2
 
@@ -113,7 +113,8 @@ module _ (image : Image) (function : ℕ) where
 
     ends_so : (type : ObjectType) (object : ℕ) → IsSimple type → end program calls (whole object type) ≡ either (gives nothing) (λ _. either spend (λ _. remove object) throws) throws
     ends_so (scalar t) object h = refl
-    ends_so pointer object h = refl
+    ends_so (pointer t) object h = refl
+    ends_so (function_pointer t) object h = refl
     ends_so (class c) object h = absurd h
 
     ends_follow : (now : List ℕ) (living : List Living) (from to : ℕ) → StandsEnds image function now from to → (first upper : ℕ) (operands : List Value) (n : ℕ) (s : source.State) (m : State) → IsReady image function s m

@@ -10,7 +10,7 @@ use Rattle.cx_code.specs.State.{State}
 use Rattle.cx_core.specs.Words.{Party, Definer, Caller, Semantic, Ignore, Observe, Enforce, QuickEnforce}
 use Rattle.cx_core.specs.Number.{truth_number}
 use Rattle.cx_core.specs.Event.{Evaluation, begin, same_evaluation, party_number, semantic_number}
-use Rattle.cx_core.specs.Tree.{Check, Operand}
+use Rattle.cx_core.specs.Tree.{Check, Operand, Specifier}
 use Rattle.cx_core.specs.Program.{Program}
 use Rattle.cx_core.specs.Store as store
 use Rattle.cx_core.specs.Store.{number, address, null, violation}
@@ -98,7 +98,7 @@ module _ (image : Image) (function : ℕ) (program : Program) (calls : Calls) wh
 
   -- ---- an evaluation
 
-  module _ (default : HaveDefaultHandler image program) (party : Party) (c : Check) (index : ℕ) (is : IsAssertion image index c.assertion) where
+  module _ (default : HaveDefaultHandler image program) (party : Party) (c : Check) (predicate : Operand) (index : ℕ) (is : IsAssertion image index c.assertion) where
     abbrev Effect : ℕ → List Value → source.State → State → Nothing → State → source.State → Type 0
     Effect to operands s m _ d t = IsAt function to operands s m d t
 
@@ -106,17 +106,20 @@ module _ (image : Image) (function : ℕ) (program : Program) (calls : Calls) wh
     effect_on to operands s t m d kept v e u x = is_at_on function to operands s t m d kept e u x
 
     -- behind its beginning
-    evaluation_follows : (from p r v to : ℕ) → StandsTruth image function c.predicate from p → Has image function p (does.Verdict index) r → Has image function r (does.JumpNonzero to) v → StandsViolated image function index c.semantic v to
+    evaluation_follows : (from p r v to : ℕ) → StandsTruth image function predicate from p → Has image function p (does.Verdict index) r → Has image function r (does.JumpNonzero to) v → StandsViolated image function index c.semantic v to
         → (n : ℕ) (operands : List Value) (s : source.State) (m : State) → Agrees function s m → s.begins ≡ begins_ahead (image_step image) n (running_at m from operands)
-        → Follows (image_step image) n s (running_at m from operands) of_statement (Effect to operands s m) (Never s m) (evaluation program calls c (evaluated program calls c.predicate) s)
+        → Follows (image_step image) n s (running_at m from operands) of_statement (Effect to operands s m) (Never s m) (evaluation program calls c (evaluated program calls predicate) s)
     evaluation_follows from p r v to first second third fourth n operands s m a told =
         follows_either (image_step image) n s (running_at m from operands) (account 11 0 0) (account 0 4 4) of_statement of_statement (Judges image function Never never_on p operands s m) (Effect to operands s m) (Never s m) (Never s m)
-        (either (evaluated program calls c.predicate) truth throws) (verdict_on program calls c.assertion c.semantic) (verdict_threw program calls c.assertion c.semantic)
+        (either (evaluated program calls predicate) truth throws) (verdict_on program calls c.assertion c.semantic) (verdict_threw program calls c.assertion c.semantic)
         (record { goes_on = omega arith; left_first = omega arith; left_second = omega arith; in_hand = omega arith }) (record { goes_on = omega arith; left = omega arith; in_hand = omega arith })
-        (truth_follows c.predicate from p first n operands s m a told)
+        (truth_follows predicate from p first n operands s m a told)
         (λ b t d k g told. from_place image function (Effect to operands) (effect_on to operands) p (values.Number (truth_number b) ∷ operands) s t m d k (account 0 4 4) (verdict_on program calls c.assertion c.semantic b t) g told
         (λ agrees told. verdict_follows image function program calls default index c.assertion is c.semantic b p r v to second third fourth k operands t g.machine agrees told))
         (λ e t d k x told. absurd x)
+
+    abbrev the_specifier : Specifier Check
+    the_specifier = record { of = c; predicate = predicate }
 
     the_evaluation : Evaluation
     the_evaluation = record { assertion = c.assertion.name; party = party; semantic = c.semantic }
@@ -139,7 +142,7 @@ module _ (image : Image) (function : ℕ) (program : Program) (calls : Calls) wh
     is_itself = all_same (bytes_eq c.assertion.name c.assertion.name) (nat_eq (party_number party) (party_number party)) (nat_eq (semantic_number c.semantic) (semantic_number c.semantic)) ((bytes_eq-Decides c.assertion.name c.assertion.name).1 refl) (same_party party) (same_semantic c.semantic)
 
     -- it may stand, as it is owed once
-    may_stand : c.times ≡ 1 → continued the_evaluation (owed program calls party c ∷ []) ≡ Some (evaluation program calls c (evaluated program calls c.predicate), record (owed program calls party c) { left = 0 } ∷ [])
+    may_stand : c.times ≡ 1 → continued the_evaluation (owed program calls party the_specifier ∷ []) ≡ Some (evaluation program calls c (evaluated program calls predicate), record (owed program calls party the_specifier) { left = 0 } ∷ [])
     unfolding the_evaluation
     may_stand once = rw (is_itself, once) refl
 
@@ -162,28 +165,28 @@ module _ (image : Image) (function : ℕ) (program : Program) (calls : Calls) wh
 
     -- ---- the row of the one assertion
 
-    module _ (from to : ℕ) (st : StandsEvaluation image function party index c from to) (once : c.times ≡ 1) (n : ℕ) (operands : List Value) (s : source.State) (m : State) (a : Agrees function s m) (told : s.begins ≡ begins_ahead (image_step image) n (running_at m from operands)) where
+    module _ (from to : ℕ) (st : StandsEvaluation image function party index c.semantic predicate from to) (once : c.times ≡ 1) (n : ℕ) (operands : List Value) (s : source.State) (m : State) (a : Agrees function s m) (told : s.begins ≡ begins_ahead (image_step image) n (running_at m from operands)) where
       abbrev Evaluates : source.Outcome Nothing → Type 0
       Evaluates r = Follows (image_step image) n s (running_at m from operands) of_statement (Effect to operands s m) (Never s m) r
 
       -- it begins, the predicate is evaluated, and the row is at its end
       begun_follows : (rest : List Evaluation) → s.begins ≡ the_evaluation ∷ rest → (more : List Owed)
-          → Evaluates (either (either (either spend (λ _. begin_told) throws) (λ _. evaluation program calls c (evaluated program calls c.predicate)) throws) (λ _. evaluations zero more) throws s)
+          → Evaluates (either (either (either spend (λ _. begin_told) throws) (λ _. evaluation program calls c (evaluated program calls predicate)) throws) (λ _. evaluations zero more) throws s)
       unfolding evaluations
       begun_follows rest e more =
           follows_then (image_step image) n s (running_at m from operands) of_statement of_statement of_statement (Effect to operands s m) (Effect to operands s m) (Never s m)
-          (either (either spend (λ _. begin_told) throws) (λ _. evaluation program calls c (evaluated program calls c.predicate)) throws) (λ _. gives nothing)
+          (either (either spend (λ _. begin_told) throws) (λ _. evaluation program calls c (evaluated program calls predicate)) throws) (λ _. gives nothing)
           (record { goes_on = omega arith; left_first = omega arith; left_second = omega arith; in_hand = omega arith })
           (follows_then (image_step image) n s (running_at m from operands) (account 31 0 0) of_statement of_statement (Effect st.0 operands s m) (Effect to operands s m) (Never s m)
-          (either spend (λ _. begin_told) throws) (λ _. evaluation program calls c (evaluated program calls c.predicate))
+          (either spend (λ _. begin_told) throws) (λ _. evaluation program calls c (evaluated program calls predicate))
           (record { goes_on = omega arith; left_first = omega arith; left_second = omega arith; in_hand = omega arith })
           (follows_unit (image_step image) n s (running_at m from operands) (account 31 0 0) (Effect st.0 operands s m) (Never s m) begin_told (omega arith) told (begin_steps from st.0 st.4 operands s m a rest e))
-          (λ _ t d k g told. from_place image function (Effect to operands) (effect_on to operands) st.0 operands s t m d k of_statement (evaluation program calls c (evaluated program calls c.predicate) t) g told
+          (λ _ t d k g told. from_place image function (Effect to operands) (effect_on to operands) st.0 operands s t m d k of_statement (evaluation program calls c (evaluated program calls predicate) t) g told
           (λ agrees told. evaluation_follows st.0 st.1 st.2 st.3 to st.5 st.6 st.7 st.8 k operands t g.machine agrees told)))
           (λ _ t d k g told. follows_gives (image_step image) k t d of_statement (Effect to operands s m) (Never s m) nothing (omega arith) g told)
 
       abbrev row_after : Evaluation → Does Nothing
-      row_after e = if_permitted (continued e (owed program calls party c ∷ [])) (λ check more. either (either (either spend (λ _. begin_told) throws) (λ _. check) throws) (λ _. evaluations zero more) throws)
+      row_after e = if_permitted (continued e (owed program calls party the_specifier ∷ [])) (λ check more. either (either (either spend (λ _. begin_told) throws) (λ _. check) throws) (λ _. evaluations zero more) throws)
 
       asked : (begins : List Evaluation) → s.begins ≡ begins → Evaluates (after (next_of begins s) row_after throws)
       asked [] e = follows_waiting (image_step image) n s (running_at m from operands) of_statement (Effect to operands s m) (Never s m) (none_told (image_step image) n (running_at m from operands) (running_at m (from + 1) operands) the_evaluation (begins_so from st.0 st.4 operands s m a) (sym e ∙ told))
@@ -193,20 +196,20 @@ module _ (image : Image) (function : ℕ) (program : Program) (calls : Calls) wh
           (subst (λ o. Evaluates (if_permitted o (λ check more. either (either (either spend (λ _. begin_told) throws) (λ _. check) throws) (λ _. evaluations zero more) throws) s)) (sym (may_stand once))
           (begun_follows rest (e ∙ ap (λ y. y ∷ rest) same) _))
 
-      row_follows : Evaluates (evaluations 1 (owed program calls party c ∷ []) s)
+      row_follows : Evaluates (evaluations 1 (owed program calls party the_specifier ∷ []) s)
       unfolding evaluations either next_told
       row_follows = asked s.begins refl
 
-  pub check_follows : HaveDefaultHandler image program → (party : Party) (c : Check) (from to : ℕ) → StandsCheck image function party c from to
+  pub check_follows : HaveDefaultHandler image program → (party : Party) (c : Check) (predicate : Operand) (from to : ℕ) → StandsCheck image function party c predicate from to
       → (n : ℕ) (operands : List Value) (s : source.State) (m : State) → Agrees function s m → s.begins ≡ begins_ahead (image_step image) n (running_at m from operands)
-      → Follows (image_step image) n s (running_at m from operands) of_statement (λ (_ : Nothing) d t. IsAt function to operands s m d t) (Never s m) (checked program calls party (c ∷ []) s)
+      → Follows (image_step image) n s (running_at m from operands) of_statement (λ (_ : Nothing) d t. IsAt function to operands s m d t) (Never s m) (checked program calls party (record { of = c; predicate = predicate } ∷ []) s)
   unfolding evaluations
-  check_follows default party c from to (inl st) n operands s m a told =
+  check_follows default party c predicate from to (inl st) n operands s m a told =
       let none : c.times + 0 ≡ 0 = omega (arith, st.0) in
-      subst (λ k. Follows (image_step image) n s (running_at m from operands) of_statement (λ (_ : Nothing) d t. IsAt function to operands s m d t) (Never s m) (evaluations k (owed program calls party c ∷ []) s)) (sym none)
+      subst (λ k. Follows (image_step image) n s (running_at m from operands) of_statement (λ (_ : Nothing) d t. IsAt function to operands s m d t) (Never s m) (evaluations k (owed program calls party (record { of = c; predicate = predicate }) ∷ []) s)) (sym none)
       (follows_gives (image_step image) n s (running_at m from operands) of_statement (λ (_ : Nothing) d t. IsAt function to operands s m d t) (Never s m) nothing (omega arith)
       (record { machine = m; is_there = ap (λ p. running_at m p operands) (sym st.1); agrees = a; kept = all_kept s m }) told)
-  check_follows default party c from to (inr st) n operands s m a told =
+  check_follows default party c predicate from to (inr st) n operands s m a told =
       let one : c.times + 0 ≡ 1 = omega (arith, st.0) in
-      subst (λ k. Follows (image_step image) n s (running_at m from operands) of_statement (λ (_ : Nothing) d t. IsAt function to operands s m d t) (Never s m) (evaluations k (owed program calls party c ∷ []) s)) (sym one)
-      (row_follows default party c st.1 st.2 from to st.3 st.0 n operands s m a told)
+      subst (λ k. Follows (image_step image) n s (running_at m from operands) of_statement (λ (_ : Nothing) d t. IsAt function to operands s m d t) (Never s m) (evaluations k (owed program calls party (record { of = c; predicate = predicate }) ∷ []) s)) (sym one)
+      (row_follows default party c predicate st.1 st.2 from to st.3 st.0 n operands s m a told)

@@ -25,11 +25,13 @@ check = record {
   assertion = record { kind = Assert; name = codes "main#assert1"; file = codes "t.cpp"; line = 1; column = 14; comment = codes "1 < 2" };
   semantic = Enforce;
   times = 1;
-  predicate = plain (binary operators.Less types.Int (plain (literal (number (pos 1)))) (plain (literal (number (pos 2)))));
 }
 
-abbrev body : Stmts
-body = next (contract_assert check) (next (return_value (plain (literal (number (pos 0))))) done)
+abbrev less : Operand
+less = plain (binary operators.Less types.Int (plain (literal (number (pos 1)))) (plain (literal (number (pos 2)))))
+
+abbrev body : Stmts Check
+body = next (contract_assert check less) (next (return_value (plain (literal (number (pos 0))))) done)
 
 abbrev program : Program
 program = record {
@@ -114,7 +116,7 @@ stands_main = record {
 }
 
 is_main : IsMain program body
-is_main = record { definer = 0; noexcept = false; is_defined = refl; not_checked = λ calls. refl }
+is_main = record { definer = 0; noexcept = false; is_defined = refl }
 
 default_handler : HaveDefaultHandler image program
 default_handler = record { in_image = refl; in_program = refl }

@@ -3,7 +3,7 @@ use Rattle.std.proofs.Common.{◌≡◌, ℕ, List, [], ◌∷◌, Some, false, 
 use Rattle.cx_code.specs.declared.image.Image.{Image}
 use Rattle.cx_code.specs.declared.operation.Operation.TheVariants as does
 use Rattle.cx_code.specs.State.{State}
-use Rattle.cx_core.specs.Tree.{scalar, pointer, Operand, value, Stmt, Stmts, empty, expression, variable_declaration, reference_declaration, block, if_else, while_loop, for_loop, Condition, while, contract_assert, return_value, done, next}
+use Rattle.cx_core.specs.Tree.{scalar, pointer, Operand, value, Stmt, Stmts, empty, expression, variable_declaration, reference_declaration, block, if_else, while_loop, for_loop, Condition, while, contract_assert, return_value, done, next, Check}
 use Rattle.cx_core.specs.Tree as tree
 use Rattle.cx_core.specs.Program.{Program}
 use Rattle.cx_core.specs.Outcome as source
@@ -34,7 +34,7 @@ module _ (image : Image) (function : ℕ) (program : Program) (calls : Calls) (d
       follows_gives (image_step image) n s (running_at m from []) of_completion (AllCompleted image function around first now to s m) (Never s m) on_to_next (omega arith)
       (now, record { machine = m; place = from; operands = []; is_there = refl; carried = refl; wanted = st; is_in = i; left = all_left (now ∷ around.scopes) s m }) told
 
-  sequence_follows : (around : Surroundings) (now : List ℕ) (a : Stmt) (first second : Does Completion) (from p to : ℕ) → Stated image function around now (behind a now) first from p → AllStated image function around (behind a now) second p to
+  sequence_follows : (around : Surroundings) (now : List ℕ) (a : Stmt Check) (first second : Does Completion) (from p to : ℕ) → Stated image function around now (behind a now) first from p → AllStated image function around (behind a now) second p to
       → AllStated image function around now (either first (sequence second) throws) from to
   sequence_follows around now a first second from p to follows more number n s m i told =
       follows_then (image_step image) n s (running_at m from []) of_completion of_completion of_completion (Completed image function number (now ∷ around.scopes) (behind a now) (Reaches image function around (behind a now) p) s m) (AllCompleted image function around number now to s m) (Never s m) first (sequence second)
@@ -62,7 +62,7 @@ module _ (image : Image) (function : ℕ) (program : Program) (calls : Calls) (d
 
   -- ---- a branch, and the body of a loop
 
-  undeclared_stated : (around : Surroundings) (now : List ℕ) (a : Stmt) (part : Does Completion) (from to : ℕ) → declares a ≡ false → Stated image function around now (behind a now) part from to → Stated image function around now now part from to
+  undeclared_stated : (around : Surroundings) (now : List ℕ) (a : Stmt Check) (part : Does Completion) (from to : ℕ) → declares a ≡ false → Stated image function around now (behind a now) part from to → Stated image function around now now part from to
   undeclared_stated around now a part from to e follows = subst (λ after. Stated image function around now after part from to) (undeclared image function a now e) follows
 
   while_follows : (around : Surroundings) (now : List ℕ) (c : Operand) (body : Does Completion) (from top p q to : ℕ) → operation_at image function from ≡ Some (does.Jump top) → StandsCondition image function (while c) top p to
@@ -76,7 +76,7 @@ module _ (image : Image) (function : ℕ) (program : Program) (calls : Calls) (d
       back from enters
 
   -- the objects that a `for` declares end behind its loop
-  for_follows : (inner : Surroundings) (init : Stmt) (c : Condition) (first step body : Does Completion) (from start top p again end over to : ℕ)
+  for_follows : (inner : Surroundings) (init : Stmt Check) (c : Condition) (first step body : Does Completion) (from start top p again end over to : ℕ)
       → GoesOnTo image function program calls default inner [] (behind init []) first from start → operation_at image function start ≡ Some (does.Jump top) → StandsCondition image function c top p over
       → Stated image function (in_loop inner over again) (behind init []) (behind init []) body p again → GoesOnTo image function program calls default inner (behind init []) (behind init []) step again end
       → operation_at image function end ≡ Some (does.Jump top) → StandsEnds image function (behind init []) over to
@@ -119,15 +119,15 @@ module _ (image : Image) (function : ℕ) (program : Program) (calls : Calls) (d
   mutual
     unfolding stmt StandsStmt
 
-    pub stmt_follows : (a : Stmt) (around : Surroundings) (now : List ℕ) (from to : ℕ) → StandsStmt image function around now a from to → Stated image function around now (behind a now) (stmt program calls a) from to
+    pub stmt_follows : (a : Stmt Check) (around : Surroundings) (now : List ℕ) (from to : ℕ) → StandsStmt image function around now a from to → Stated image function around now (behind a now) (stmt program calls a) from to
     stmt_follows empty around now from to st = stated_so image function program calls default around now now (stmt program calls empty) from to (simple_follows image function program calls default around now empty from to refl st)
     stmt_follows (expression e) around now from to st = stated_so image function program calls default around now now (stmt program calls (expression e)) from to (simple_follows image function program calls default around now (expression e) from to refl st)
     stmt_follows (variable_declaration slot (scalar type) (value a)) around now from to st =
         stated_so image function program calls default around now (slot ∷ now) (stmt program calls (variable_declaration slot (scalar type) (value a))) from to
         (simple_follows image function program calls default around now (variable_declaration slot (scalar type) (value a)) from to refl st)
-    stmt_follows (variable_declaration slot pointer (value a)) around now from to st =
-        stated_so image function program calls default around now (slot ∷ now) (stmt program calls (variable_declaration slot pointer (value a))) from to
-        (simple_follows image function program calls default around now (variable_declaration slot pointer (value a)) from to refl st)
+    stmt_follows (variable_declaration slot (pointer t) (value a)) around now from to st =
+        stated_so image function program calls default around now (slot ∷ now) (stmt program calls (variable_declaration slot (pointer t) (value a))) from to
+        (simple_follows image function program calls default around now (variable_declaration slot (pointer t) (value a)) from to refl st)
     stmt_follows (reference_declaration slot e) around now from to st =
         stated_so image function program calls default around now now (stmt program calls (reference_declaration slot e)) from to (simple_follows image function program calls default around now (reference_declaration slot e) from to refl st)
     stmt_follows (block b) around now from to st = block_follows image function program calls default around now (stmts program calls b) from to (stmts_follows b (inside around now) [] from to st)
@@ -147,12 +147,12 @@ module _ (image : Image) (function : ℕ) (program : Program) (calls : Calls) (d
         st.15 st.16)
     stmt_follows tree.break around now from to st = left_follows image function program calls default around now break from to refl st
     stmt_follows tree.continue around now from to st = left_follows image function program calls default around now continue from to refl st
-    stmt_follows (contract_assert c) around now from to st = stated_so image function program calls default around now now (stmt program calls (contract_assert c)) from to (assert_follows image function program calls default around now c from to st)
+    stmt_follows (contract_assert c predicate) around now from to st = stated_so image function program calls default around now now (stmt program calls (contract_assert c predicate)) from to (assert_follows image function program calls default around now c predicate from to st)
     stmt_follows (return_value a) around now from to st = return_follows image function program calls default around now a from st.0 st.1 to st.2 st.3 st.4
     stmt_follows (variable_declaration slot type init) around now from to st = absurd st
     stmt_follows other around now from to st = absurd st
 
-    pub stmts_follows : (b : Stmts) (around : Surroundings) (now : List ℕ) (from to : ℕ) → StandsStmts image function around now b from to → AllStated image function around now (stmts program calls b) from to
+    pub stmts_follows : (b : Stmts Check) (around : Surroundings) (now : List ℕ) (from to : ℕ) → StandsStmts image function around now b from to → AllStated image function around now (stmts program calls b) from to
     stmts_follows done around now from to st = ended_follows around now from to st
     stmts_follows (next a rest) around now from to st =
         sequence_follows around now a (stmt program calls a) (stmts program calls rest) from st.0 to (stmt_follows a around now from st.0 st.1) (stmts_follows rest around (behind a now) st.0 to st.2)

@@ -13,7 +13,7 @@ use Rattle.cx_code.specs.Operation.{operation_of}
 use Rattle.cx_types.specs.declared.value_type.Scalar.TheVariants as scalars
 use Rattle.cx_core.specs.declared.number.IntegerType.TheVariants as types
 use Rattle.cx_core.specs.declared.number.BinaryOperator.TheVariants as operators
-use Rattle.cx_core.specs.Tree.{scalar, Stmt, Stmts, next, done, empty, expression, variable_declaration, block, if_else, while_loop, for_loop, while, break, continue, return_value, Operand, operand, Expr, literal, variable, binary, assign, prefix_step, putchar, value, number}
+use Rattle.cx_core.specs.Tree.{scalar, Stmt, Stmts, next, done, empty, expression, variable_declaration, block, if_else, while_loop, for_loop, while, break, continue, return_value, Operand, operand, Expr, literal, variable, binary, assign, prefix_step, putchar, value, number, Check}
 use Rattle.cx_core.specs.Program.{Program, exit_status}
 use Rattle.cx_core.specs.Program as tree
 use Rattle.cx_emit.specs.Checks.{HaveDefaultHandler}
@@ -34,27 +34,27 @@ int n = plain (literal (number (pos n)))
 abbrev less : Operand → Operand → Operand
 less a b = plain (binary operators.Less types.Int a b)
 
-abbrev declare : ℕ → Operand → Stmt
+abbrev declare : ℕ → Operand → Stmt Check
 declare slot a = variable_declaration slot (scalar scalars.Int) (value a)
 
-abbrev set : ℕ → Operand → Stmt
-set slot a = expression (assign (variable slot) a)
+abbrev set : ℕ → Operand → Stmt Check
+set slot a = expression (plain (assign (variable slot) a))
 
-abbrev counting : Stmts
+abbrev counting : Stmts Check
 counting =
     next (declare 1 (plain (binary operators.Add types.Int (read 0) (int 1))))
     (next (if_else (less (int 2) (read 1)) (return_value (read 1)) empty)
-    (next (expression (putchar (read 1)))
+    (next (expression (plain (putchar (read 1))))
     (next (set 0 (read 1)) done)))
 
-abbrev leaving : Stmts
+abbrev leaving : Stmts Check
 leaving = next (if_else (read 1) continue empty) (next break done)
 
-abbrev body : Stmts
+abbrev body : Stmts Check
 body =
     next (declare 0 (int 0))
     (next (while_loop (less (read 0) (int 3)) (block counting))
-    (next (for_loop (declare 1 (int 0)) (while (less (read 1) (int 2))) (expression (prefix_step operators.Add types.Int (variable 1))) (block leaving)) done))
+    (next (for_loop (declare 1 (int 0)) (while (less (read 1) (int 2))) (expression (plain (prefix_step operators.Add types.Int (variable 1)))) (block leaving)) done))
 
 abbrev program : Program
 program = record {
@@ -140,7 +140,7 @@ y_returned : StandsStmt image 1 (inside in_while (0 ∷ [])) (1 ∷ []) (return_
 unfolding StandsStmt StandsExpr operation_of
 y_returned = (26, 26, (25, 26, record { here = refl; next = refl }, record { here = refl; next = refl }, refl), inl refl, (28, (27, 28, record { here = refl; next = refl }, record { here = refl; next = refl }, refl), (30, (29, 30, record { here = refl; next = refl }, record { here = refl; next = refl }, refl), inr refl)))
 
-y_written : StandsStmt image 1 (inside in_while (0 ∷ [])) (1 ∷ []) (expression (putchar (read 1))) 31 36
+y_written : StandsStmt image 1 (inside in_while (0 ∷ [])) (1 ∷ []) (expression (plain (putchar (read 1)))) 31 36
 unfolding StandsStmt StandsExpr operation_of
 y_written = (35, (33, 34, (32, 33, record { here = refl; next = refl }, record { here = refl; next = refl }, refl), refl, record { here = refl; next = refl }), record { here = refl; next = refl })
 
@@ -172,11 +172,11 @@ z_left : StandsStmt image 1 (inside in_for (1 ∷ [])) [] break 60 61
 unfolding StandsStmt StandsExpr operation_of
 z_left = (record { depth = 1; break_to = 70; continue_to = 61 }, refl, (60, refl, inr refl))
 
-z_stepped : StandsStmt image 1 (inside (around_body 75) (0 ∷ [])) (1 ∷ []) (expression (prefix_step operators.Add types.Int (variable 1))) 61 69
+z_stepped : StandsStmt image 1 (inside (around_body 75) (0 ∷ [])) (1 ∷ []) (expression (plain (prefix_step operators.Add types.Int (variable 1)))) 61 69
 unfolding StandsStmt StandsExpr operation_of
 z_stepped = (62, record { here = refl; next = refl }, (63, 64, 65, 66, 67, 68, record { here = refl; next = refl }, record { here = refl; next = refl }, record { here = refl; next = refl }, record { here = refl; next = refl }, record { here = refl; next = refl }, record { here = refl; next = refl }, record { here = refl; next = refl }))
 
-repeats : StandsStmt image 1 (around_body 75) (0 ∷ []) (for_loop (declare 1 (int 0)) (while (less (read 1) (int 2))) (expression (prefix_step operators.Add types.Int (variable 1))) (block leaving)) 44 72
+repeats : StandsStmt image 1 (around_body 75) (0 ∷ []) (for_loop (declare 1 (int 0)) (while (less (read 1) (int 2))) (expression (plain (prefix_step operators.Add types.Int (variable 1)))) (block leaving)) 44 72
 unfolding StandsStmt StandsExpr operation_of
 repeats = (refl, refl, refl, refl, 48, 49, 55, 61, 69, 70, z_declared, refl, z_compared, (60, (refl, refl, 59, 60, 60, z_tested, z_continued, inl refl, refl), (61, z_left, refl)), z_stepped, refl, (71, 72, record { here = refl; next = refl }, record { here = refl; next = refl }, refl))
 
@@ -203,7 +203,7 @@ stands_main = record {
 }
 
 is_main : IsMain program body
-is_main = record { definer = 0; noexcept = false; is_defined = refl; not_checked = λ calls. refl }
+is_main = record { definer = 0; noexcept = false; is_defined = refl }
 
 default_handler : HaveDefaultHandler image program
 default_handler = record { in_image = refl; in_program = refl }

@@ -20,6 +20,7 @@ pub keeps : (v : source.Value) (w : Value) → IsValue v w → Keeps v w
 keeps (number n) w is = inl is
 keeps (address a) w is = is
 keeps null w is = is
+keeps (source.function x) w is = absurd is
 keeps (violation x) w is = absurd is
 
 -- ---- numbers

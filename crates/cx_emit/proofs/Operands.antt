@@ -17,7 +17,7 @@ use Rattle.cx_core.specs.declared.number.IntegerType.{IntegerType}
 use Rattle.cx_core.specs.declared.number.IntegerType.TheVariants as types
 use Rattle.cx_core.specs.Words.{Kind, Mixed, Null, Dead, Unset, Undefined}
 use Rattle.cx_core.specs.Event.{Event, ended}
-use Rattle.cx_core.specs.Tree.{ObjectType, scalar, pointer, class}
+use Rattle.cx_core.specs.Tree.{ObjectType, scalar, pointer, function_pointer, class}
 use Rattle.cx_core.specs.Store as store
 use Rattle.cx_core.specs.Store.{Address, number, address, null, violation, Leaf, leaf_at, leaf_in, leaves_of, value_of}
 use Rattle.cx_core.specs.Outcome as source
@@ -43,6 +43,7 @@ same_value_number types.Bool (address a) w n is e = ap (value_as scalars.Bool) i
 same_value_number types.Bool null w n is e = ap (value_as scalars.Bool) is ∙ e
 same_value_number type (address a) w n is e = absurd (cc)
 same_value_number type null w n is e = absurd (cc)
+same_value_number type (store.function v) w n is e = absurd is
 same_value_number type (violation v) w n is e = absurd is
 
 -- ---- what is loaded
@@ -169,11 +170,14 @@ module _ (image : Image) (function : ℕ) (Fly : source.State → State → sour
     fitted_reads (scalar t) from to (number k) w x st kept told h true f = number_reads (integer_of t) from to k w x st f kept told h
     fitted_reads (scalar t) from to (address a) w x st kept told h true f = absurd (cc)
     fitted_reads (scalar t) from to null w x st kept told h true f = absurd (cc)
+    fitted_reads (scalar t) from to (store.function a) w x st kept told h true f = absurd kept
     fitted_reads (scalar t) from to (violation a) w x st kept told h true f = absurd kept
-    fitted_reads pointer from to (number k) w x st kept told h true f = absurd (cc)
-    fitted_reads pointer from to (address a) w x st kept told h true f = reads_one from to (address a) w x told kept st.next h
-    fitted_reads pointer from to null w x st kept told h true f = reads_one from to null w x told kept st.next h
-    fitted_reads pointer from to (violation a) w x st kept told h true f = absurd kept
+    fitted_reads (pointer t) from to (number k) w x st kept told h true f = absurd (cc)
+    fitted_reads (pointer t) from to (address a) w x st kept told h true f = reads_one from to (address a) w x told kept st.next h
+    fitted_reads (pointer t) from to null w x st kept told h true f = reads_one from to null w x told kept st.next h
+    fitted_reads (pointer t) from to (store.function a) w x st kept told h true f = absurd kept
+    fitted_reads (pointer t) from to (violation a) w x st kept told h true f = absurd kept
+    fitted_reads (function_pointer t) from to v w x st kept told h true f = absurd st
     fitted_reads (class c) from to v w x st kept told h true f = absurd st
 
     first_load : (type : ObjectType) (from to : ℕ) → StandsLoad image function type from to → (mid : ℕ) × Has image function from does.Load mid
@@ -183,7 +187,8 @@ module _ (image : Image) (function : ℕ) (Fly : source.State → State → sour
         number_load None st = absurd st
         number_load (Some types.UnsignedLongLong) st = (st.0, st.1)
         number_load (Some type) st = (to, st)
-    first_load pointer from to st = (to, st)
+    first_load (pointer t) from to st = (to, st)
+    first_load (function_pointer t) from to st = absurd st
     first_load (class c) from to st = absurd st
 
     -- the load at a place on an address
@@ -202,6 +207,7 @@ module _ (image : Image) (function : ℕ) (Fly : source.State → State → sour
     load_reads : (type : ObjectType) (from to : ℕ) (v : store.Value) (w : Value) → StandsLoad image function type from to → IsValue v w → Told from w → Reads from to w (read_as (Some type) v s)
     unfolding either giving ends throws current_store
     load_reads type from to (number k) w st is told = reads_mixed from to w s.trace
+    load_reads type from to (store.function k) w st is told = absurd is
     load_reads type from to (violation k) w st is told = absurd is
     load_reads type from to null w st is told =
         let load = first_load type from to st in

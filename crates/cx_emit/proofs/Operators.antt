@@ -83,6 +83,7 @@ module _ (image : Image) (function : ℕ) (Fly : source.State → State → sour
       by_range false f = λ other. absurd (other refl)
   unary_steps operator type o s m budget from to operands (address x) w a h e is = λ other. absurd (other refl)
   unary_steps operator type o s m budget from to operands null w a h e is = λ other. absurd (other refl)
+  unary_steps operator type o s m budget from to operands (store.function x) w a h e is = λ other. absurd (other refl)
   unary_steps operator type o s m budget from to operands (violation x) w a h e is = λ other. absurd (other refl)
 
 -- ---- operators with two operands
@@ -164,10 +165,13 @@ equal_pointers (address a) null v w same p q e = ap (λ (v : Value). equal_value
 equal_pointers null (address b) v w same p q e = ap (λ (v : Value). equal_values v w) p ∙ ap (λ (w : Value). equal_values values.Null w) q ∙ e
 equal_pointers null null v w same p q e = ap (λ (v : Value). equal_values v w) p ∙ ap (λ (w : Value). equal_values values.Null w) q ∙ e
 equal_pointers (number x) y v w same p q e = absurd (cc)
+equal_pointers (store.function x) y v w same p q e = absurd p
 equal_pointers (violation x) y v w same p q e = absurd p
 equal_pointers (address a) (number y) v w same p q e = absurd (cc)
+equal_pointers (address a) (store.function y) v w same p q e = absurd q
 equal_pointers (address a) (violation y) v w same p q e = absurd q
 equal_pointers null (number y) v w same p q e = absurd (cc)
+equal_pointers null (store.function y) v w same p q e = absurd q
 equal_pointers null (violation y) v w same p q e = absurd q
 
 module _ (image : Image) (function : ℕ) (Fly : source.State → State → source.Exception → State → source.State → Type 0) where

@@ -89,6 +89,7 @@ module _ (image : Image) (function : ℕ) (Fly : source.State → State → sour
         (number_follows x n s m a (told ∙ ap (λ w. begins_ahead (image_step image) n (running_at m from (w ∷ operands))) is))
     writes (address x) w is n s m a told = record { comes = λ other. absurd (other refl) }
     writes null w is n s m a told = record { comes = λ other. absurd (other refl) }
+    writes (store.function x) w is n s m a told = absurd is
     writes (violation x) w is n s m a told = absurd is
 
   -- the next byte is read, or the end of the input

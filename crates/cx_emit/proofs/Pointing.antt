@@ -76,6 +76,7 @@ module _ (image : Image) (function : ℕ) (Fly : source.State → State → sour
     points (address a) is = not_null a is
     points null is = is_null is
     points (number k) is = record { comes = λ other. absurd (other refl) }
+    points (store.function k) is = absurd is
     points (violation k) is = absurd is
 
   pub indirection_follows : (part : Does store.Value) (from : ℕ) → Valued image function Fly of_operand part from p → Valued image function Fly of_expression (indirection_of part) from to

@@ -6,7 +6,7 @@ use Rattle.cx_code.specs.declared.run.Value.{Value}
 use Rattle.cx_code.specs.declared.run.Value.TheVariants as values
 use Rattle.cx_code.specs.State.{State}
 use Rattle.cx_core.specs.Laws.{IsNumbered}
-use Rattle.cx_core.specs.Tree.{ObjectType, scalar, pointer, class}
+use Rattle.cx_core.specs.Tree.{ObjectType, scalar, pointer, function_pointer, class}
 use Rattle.cx_core.specs.Store.{Store, leaves_of}
 use Rattle.cx_core.specs.Outcome as source
 use Rattle.cx_core.specs.Outcome.{Living, whole}
@@ -47,7 +47,8 @@ all_then (slots ∷ scopes) old mid new a b = (same_then slots old mid new a.0 b
 -- of one leaf, which nothing is called for where it ends
 abbrev pub IsSimple : ObjectType → Type 0
 IsSimple (scalar type) = Unit {0}
-IsSimple pointer = Unit {0}
+IsSimple (pointer t) = Unit {0}
+IsSimple (function_pointer t) = Unit {0}
 IsSimple (class c) = ⊥
 
 -- they live, and their places stand in these slots; each has a greater number than those before it, of which the first one is known

@@ -17,17 +17,18 @@ use Rattle.cx_code.specs.Act.{act, moved, on_some, mixed, left, returned, return
 use Rattle.cx_core.specs.Words.{Returned}
 use Rattle.cx_core.specs.Number.{in_range}
 use Rattle.cx_core.specs.declared.number.IntegerType.TheVariants as types
-use Rattle.cx_core.specs.Tree.{Stmts}
+use Rattle.cx_core.specs.Tree.{Stmts, Check}
 use Rattle.cx_core.specs.Program.{Program, exit_status}
 use Rattle.cx_core.specs.Program as tree
 use Rattle.cx_core.specs.Store as store
 use Rattle.cx_core.specs.Store.{number, address, null, violation}
 use Rattle.cx_core.specs.Outcome as source
 use Rattle.cx_core.specs.Outcome.{on, over, Does, Nothing, nothing, after, either, gives, throws, spend, some, undone_by, edge, current_frame, set_frame, current_living, set_living}
-use Rattle.cx_core.specs.Leaving.{Call, Calls, edge_if, within, in_unit, scope}
+use Rattle.cx_core.specs.Leaving.{Call, Calls, edge_if, within, scope}
 use Rattle.cx_core.specs.Block.{evaluations}
 use Rattle.cx_core.specs.Statements.{Completion, on_to_next, break, continue, return}
-use Rattle.cx_core.specs.Meaning.{stmts, checked, preconditions, postconditions, value_given, body, destroy_result, function_call, acting, unit_of, active, implicit_within, calls_within, main_call, start, depth_limit}
+use Rattle.cx_core.specs.Calls.{value_given, body, destroy_result}
+use Rattle.cx_core.specs.Meaning.{stmts, preconditions, postconditions, function_call, acting, unit_of, active, implicit_within, calls_within, main_call, start, depth_limit}
 use Rattle.cx_simulation.specs.Machine.{goes, halts, begins_ahead}
 use Rattle.cx_simulation.specs.ImageMachine.{progress, image_step}
 use Rattle.cx_simulation.specs.Parts.{Follows, HasReturned, IsUncaught, whole_account}
@@ -61,7 +62,7 @@ pub record Given (function exit : ℕ) (m : State) (v : store.Value) (d : State)
   pub in_function : machine.frame.function ≡ function
   pub same_below : machine.below ≡ m.below
 
-module _ (image : Image) (program : Program) (b : Stmts) (default : HaveDefaultHandler image program) (is_main : IsMain program b) (st : StandsMain image b) (calls : Calls) where
+module _ (image : Image) (program : Program) (b : Stmts Check) (default : HaveDefaultHandler image program) (is_main : IsMain program b) (st : StandsMain image b) (calls : Calls) where
   -- ---- the value of the body
 
   abbrev Gives : State → store.Value → State → source.State → Type 0
@@ -108,7 +109,7 @@ module _ (image : Image) (program : Program) (b : Stmts) (default : HaveDefaultH
       no_loop l e = cc
 
   value_follows : (n : ℕ) (s : source.State) (m : State) → IsReady image st.body s m → s.begins ≡ begins_ahead (image_step image) n (running_at m 0 [])
-      → Follows (image_step image) n s (running_at m 0 []) (account 0 2 2) (Gives m) (Never s m) (body program calls exit_status b s)
+      → Follows (image_step image) n s (running_at m 0 []) (account 0 2 2) (Gives m) (Never s m) (body program calls exit_status (stmts program calls b) s)
   unfolding Leaves
   value_follows n s m r told =
       follows_then (image_step image) n s (running_at m 0 []) of_completion (account 0 2 2) (account 0 2 2) (Departed image st.body [] Leaves s m) (Gives m) (Never s m) (scope program calls (stmts program calls b)) (value_given program calls exit_status)
@@ -148,20 +149,20 @@ module _ (image : Image) (program : Program) (b : Stmts) (default : HaveDefaultH
 
   no_preconditions : (s : source.State) → preconditions program calls the_function the_call s ≡ on nothing s
   unfolding either gives throws current_frame set_frame evaluations
-  no_preconditions s = ap (λ k. either (in_unit 0 (checked program calls Rattle.cx_core.specs.Words.Caller k.preconditions)) (λ _. checked program calls Rattle.cx_core.specs.Words.Definer []) throws s) (is_main.not_checked calls)
+  no_preconditions s = refl
 
   no_postconditions : (s : source.State) → postconditions program calls the_function the_call s ≡ on nothing s
   unfolding either gives throws current_frame set_frame evaluations
-  no_postconditions s = ap (λ k. either (checked program calls Rattle.cx_core.specs.Words.Definer []) (λ _. in_unit 0 (checked program calls Rattle.cx_core.specs.Words.Caller k.postconditions)) throws s) (is_main.not_checked calls)
+  no_postconditions s = refl
 
   function_follows : (n : ℕ) (s : source.State) (m : State) → IsReady image st.body s m → s.begins ≡ begins_ahead (image_step image) n (running_at m 0 [])
       → Follows (image_step image) n s (running_at m 0 []) (account 0 2 2) (Gives m) (Never s m) (function_call program calls the_function the_call b s)
   unfolding either gives throws
   function_follows n s m r told =
       follows_nothing_then (image_step image) n s s (running_at m 0 []) (account 0 2 2) (Gives m) (Never s m) (preconditions program calls the_function the_call) nothing
-      (λ _. either (body program calls exit_status b) (λ v. either (undone_by (postconditions program calls the_function the_call) (destroy_result program calls exit_status None)) (λ _. gives v) throws) throws) throws
+      (λ _. either (body program calls exit_status (stmts program calls b)) (λ v. either (undone_by (postconditions program calls the_function the_call) (destroy_result program calls exit_status None)) (λ _. gives v) throws) throws) throws
       (no_preconditions s) refl refl
-      (follows_changed (image_step image) n s (running_at m 0 []) (account 0 2 2) (Gives m) (Gives m) (body program calls exit_status b)
+      (follows_changed (image_step image) n s (running_at m 0 []) (account 0 2 2) (Gives m) (Gives m) (body program calls exit_status (stmts program calls b))
       (λ v. either (undone_by (postconditions program calls the_function the_call) (destroy_result program calls exit_status None)) (λ _. gives v) throws) throws (omega arith)
       (λ v t d g. (v, t, ap (λ r. after (after r gives (λ e. either (destroy_result program calls exit_status None) (λ _. throws e) throws)) (λ _. gives v) throws) (no_postconditions t), refl, refl, refl, g))
       (value_follows n s m r told))
@@ -202,7 +203,7 @@ first_function : (index : ℕ) (x : Option Function) → (first_frame index x).f
 first_function index None = refl
 first_function index (Some function) = refl
 
-module _ (image : Image) (program : Program) (b : Stmts) (default : HaveDefaultHandler image program) (is_main : IsMain program b) (st : StandsMain image b) (globals : HaveGlobals image program) (input : List ℕ) where
+module _ (image : Image) (program : Program) (b : Stmts Check) (default : HaveDefaultHandler image program) (is_main : IsMain program b) (st : StandsMain image b) (globals : HaveGlobals image program) (input : List ℕ) where
   m0 : State
   m0 = initial image input
 
@@ -288,6 +289,7 @@ module _ (image : Image) (program : Program) (b : Stmts) (default : HaveDefaultH
       }
   returned_soon t d (address x) in_main g = tt {0}
   returned_soon t d null in_main g = tt {0}
+  returned_soon t d (store.function x) in_main g = tt {0}
   returned_soon t d (violation x) in_main g = tt {0}
 
   -- the call of main
@@ -296,21 +298,21 @@ module _ (image : Image) (program : Program) (b : Stmts) (default : HaveDefaultH
 
   main_follows : (calls : Calls) (n : ℕ) (s : source.State) → Agrees image.main s m0 → IsNumbered s.next s.store → s.begins ≡ begins_ahead (image_step image) n (running_at m0 0 [])
       → Follows (image_step image) n s (running_at m0 0 []) whole_account (HasReturned (image_step image)) (IsUncaught (image_step image)) (active program calls (main_call program) s)
-  unfolding gives
+  unfolding gives either throws
   main_follows calls n s a numbered told =
       follows_unit_then (image_step image) n s (running_at m0 0 []) (account 31 0 0) (account 0 2 2) whole_account Called (HasReturned (image_step image)) (IsUncaught (image_step image))
-      (either (some (slice_get program.functions program.main)) (λ f. within (record { unit = unit_of program calls f (main_call program); variables = []; result = None }) (acting program calls f.body f (main_call program))) throws)
+      (either (some (slice_get program.functions program.main)) (λ f. either (gives nothing) (λ _. within (record { unit = unit_of program calls f (main_call program); variables = []; result = None }) (acting program calls f.body f (main_call program))) throws) throws)
       (record { goes_on = omega arith; left_first = omega arith; left_second = omega arith; in_hand = omega arith }) (omega arith) told
       (λ left. record { to = running_at m1 0 []; event = None; goes_so = call_step s a; noted_so = refl; begun_so = refl; same_budget = refl; stands = (refl, record { in_function = a.in_function; same_store = a.same_store; same_next = a.same_next; same_input = a.same_input; same_names = a.same_names }, numbered) })
       (λ t d k p told. called t d k p told)
     where
       called : (t : source.State) (d : State) (k : ℕ) → Called d t → t.begins ≡ begins_ahead (image_step image) k d
           → Follows (image_step image) k t d (account 0 2 2) (HasReturned (image_step image)) (IsUncaught (image_step image))
-          (either (some (slice_get program.functions program.main)) (λ f. within (record { unit = unit_of program calls f (main_call program); variables = []; result = None }) (acting program calls f.body f (main_call program))) throws t)
+          (either (some (slice_get program.functions program.main)) (λ f. either (gives nothing) (λ _. within (record { unit = unit_of program calls f (main_call program); variables = []; result = None }) (acting program calls f.body f (main_call program))) throws) throws t)
       called t d k p told =
           follows_nothing_then (image_step image) k t t d (account 0 2 2) (HasReturned (image_step image)) (IsUncaught (image_step image)) (some (slice_get program.functions program.main))
           (record { definer = is_main.definer; noexcept = is_main.noexcept; result = exit_status; checks = no_checks; body = tree.function b })
-          (λ f. within (record { unit = unit_of program calls f (main_call program); variables = []; result = None }) (acting program calls f.body f (main_call program))) throws
+          (λ f. either (gives nothing) (λ _. within (record { unit = unit_of program calls f (main_call program); variables = []; result = None }) (acting program calls f.body f (main_call program))) throws) throws
           (ap (λ o. some o t) is_main.is_defined) refl refl
           (subst (λ d. Follows (image_step image) k t d (account 0 2 2) (HasReturned (image_step image)) (IsUncaught (image_step image)) (within (record { unit = is_main.definer; variables = []; result = None }) (acting program calls (tree.function b) (record { definer = is_main.definer; noexcept = is_main.noexcept; result = exit_status; checks = no_checks; body = tree.function b }) (main_call program)) t)) (sym p.0)
           (follows_less (image_step image) k t (running_at m1 0 []) (account 0 2 2) (account 0 2 2) (λ v d u. Given st.body st.exit m1 v d) (HasReturned (image_step image)) (Never t m1) (IsUncaught (image_step image)) _

@@ -1,19 +1,20 @@
 -- Where code stands for statements the machine follows them.
-use Rattle.std.proofs.Common.{◌≡◌, ℕ, suc, ◌+◌, length, List, [], ◌∷◌, None, true, inl, inr, refl, sym, ap, ◌∙◌, subst, arith}
+use Rattle.std.proofs.Common.{◌≡◌, ℕ, suc, ◌+◌, length, List, [], ◌∷◌, Some, None, true, inl, inr, refl, sym, ap, ◌∙◌, subst, arith}
 use Rattle.cx_code.specs.declared.image.Image.{Image}
 use Rattle.cx_code.specs.declared.operation.Operation.TheVariants as does
 use Rattle.cx_code.specs.declared.run.Value.{Value}
 use Rattle.cx_code.specs.State.{State}
 use Rattle.cx_core.specs.Words.{Definer}
-use Rattle.cx_core.specs.Tree.{ObjectType, scalar, pointer, Check, Expr, assign, prefix_step, postfix_step, Operand, value, Stmt, empty, expression, variable_declaration, reference_declaration}
+use Rattle.cx_core.specs.Tree.{ObjectType, scalar, pointer, Check, Expr, assign, prefix_step, postfix_step, Operand, operand, value, Stmt, empty, expression, variable_declaration, reference_declaration}
 use Rattle.cx_core.specs.Program.{Program}
 use Rattle.cx_core.specs.Store as store
 use Rattle.cx_core.specs.Outcome as source
-use Rattle.cx_core.specs.Outcome.{on, over, Does, Nothing, nothing, after, either, gives, throws, current_frame}
-use Rattle.cx_core.specs.Leaving.{Calls, scope, full_expression}
-use Rattle.cx_core.specs.Operators.{assignment, prefix_operation, postfix_operation}
+use Rattle.cx_core.specs.Outcome.{on, over, Does, Nothing, nothing, after, either, gives, throws, current_frame, current_temporaries, set_temporaries}
+use Rattle.cx_core.specs.Leaving.{Calls, end_each, scope, full_expression}
+use Rattle.cx_core.specs.Operators.{converted, assignment, prefix_operation, postfix_operation}
 use Rattle.cx_core.specs.Statements.{Completion, on_to_next, return, completed, variable_of, reference_of}
-use Rattle.cx_core.specs.Meaning.{expr, used, init, checked, result_stored, stmt}
+use Rattle.cx_core.specs.Meaning.{expr, used, init, checked, stmt}
+use Rattle.cx_core.specs.Calls.{result_stored}
 use Rattle.cx_simulation.specs.Machine.{begins_ahead}
 use Rattle.cx_simulation.specs.ImageMachine.{image_step}
 use Rattle.cx_simulation.specs.Parts.{Follows}
@@ -23,9 +24,9 @@ use Rattle.cx_emit.specs.Configuration.{running_at, Has, Agrees, IsAt, Gives}
 use Rattle.cx_emit.specs.Checks.{GoesOn, HaveDefaultHandler, StandsCheck}
 use Rattle.cx_emit.specs.Stands.{StandsExpr, StandsOperand}
 use Rattle.cx_emit.specs.Scopes.{Surroundings, inside, StandsExit}
-use Rattle.cx_emit.specs.Statements.{behind, goes_on, StandsDiscarded, StandsDeclaration, StandsStmt}
+use Rattle.cx_emit.specs.Statements.{behind, goes_on, StandsDiscarded, StandsDropped, StandsDeclaration, StandsStmt}
 use Rattle.cx_emit.specs.Laws.{of_expression, of_operand, of_statement}
-use Rattle.cx_emit.proofs.Places.{all_kept, jumps_to}
+use Rattle.cx_emit.proofs.Places.{Valued, all_kept, jumps_to}
 use Rattle.cx_emit.proofs.Valuing.{account, value_then}
 use Rattle.cx_emit.proofs.Expressions.{expr_follows, used_follows}
 use Rattle.cx_emit.proofs.Asserting.{Never, never_on, is_at_on, step_to, at}
@@ -82,21 +83,25 @@ module _ (image : Image) (function : ℕ) (program : Program) (calls : Calls) (d
         follows_one (image_step image) k s (running_at m p (w ∷ [])) (account 0 1 1) (λ (_ : Nothing) d t. IsAt function to [] s m d t) (Never s m) (on nothing s) (omega arith) (omega arith) told
         (step_to image function s s m m p (p + 1) to (w ∷ []) [] None h.next (at image function s m p (w ∷ []) does.Discard a h.here) refl refl refl a s (all_kept s m))
 
-    dropped_follows : (e : Expr) (from p to : ℕ) → StandsExpr image function e from p → Has image function p does.Discard to
+    dropped_follows : (part : Does store.Value) (from p to : ℕ) → Valued image function Never of_operand part from p → Has image function p does.Discard to
         → (first n : ℕ) (s : source.State) (m : State) → IsIn image function first now s m → s.begins ≡ begins_ahead (image_step image) n (running_at m from [])
         → Follows (image_step image) n s (running_at m from []) of_completion (λ (_ : Nothing) d t. Completed image function first (now ∷ around.scopes) now (λ c p. p ≡ to) s m on_to_next d t) (Never s m)
-        (either (full_expression program calls (expr program calls e)) (λ _. gives nothing) throws s)
-    dropped_follows e from p to st h first n s m i told =
+        (either (full_expression program calls part) (λ _. gives nothing) throws s)
+    dropped_follows part from p to follows h first n s m i told =
         follows_less (image_step image) n s (running_at m from []) (account 0 0 0) of_completion (λ (_ : Nothing) d t. IsAt function to [] s m d t) (λ (_ : Nothing) d t. Completed image function first (now ∷ around.scopes) now (λ c p. p ≡ to) s m on_to_next d t) (Never s m) (Never s m) _
         (record { goes_on = omega arith; left = omega arith; in_hand = omega arith }) (λ _ d t g. placed image function first around.scopes now to s m d t i g) (λ e d t f. f)
-        (value_then image function Never never_on of_operand (account 0 1 1) (account 0 0 0) (full_expression program calls (expr program calls e)) (λ _. gives nothing) from p (λ s m (_ : Nothing) d t. IsAt function to [] s m d t)
+        (value_then image function Never never_on of_operand (account 0 1 1) (account 0 0 0) (full_expression program calls part) (λ _. gives nothing) from p (λ s m (_ : Nothing) d t. IsAt function to [] s m d t)
         (record { goes_on = omega arith; left_first = omega arith; left_second = omega arith; in_hand = omega arith })
         (λ s t m d kept _ x u g. is_at_on function to [] s t m d kept x u g)
-        (full_follows image function program calls (expr program calls e) from p
-        (λ n operands s m a told. follows_less (image_step image) n s (running_at m from operands) of_expression of_operand (Gives function p operands s m) (Gives function p operands s m) (Never s m) (Never s m) (expr program calls e s)
-        (record { goes_on = omega arith; left = omega arith; in_hand = omega arith }) (λ v d t g. g) (λ x d t f. f) (expr_follows image function Never never_on program calls e from p st n operands s m a told)))
+        (full_follows image function program calls part from p follows)
         []
         (λ v w is k s m a told. dropped p to h w k s m a told) n s m (i.ready).agrees told)
+
+    -- an expression gives what its operand does
+    expression_gives : (e : Expr) (from to : ℕ) → StandsExpr image function e from to → Valued image function Never of_operand (expr program calls e) from to
+    expression_gives e from to st n operands s m a told =
+        follows_less (image_step image) n s (running_at m from operands) of_expression of_operand (Gives function to operands s m) (Gives function to operands s m) (Never s m) (Never s m) (expr program calls e s)
+        (record { goes_on = omega arith; left = omega arith; in_hand = omega arith }) (λ v d t g. g) (λ x d t f. f) (expr_follows image function Never never_on program calls e from to st n operands s m a told)
 
     -- the value of what stores one is dropped without an instruction
     stored_follows : (part : Does store.Value) (from to : ℕ)
@@ -125,7 +130,37 @@ module _ (image : Image) (function : ℕ) (program : Program) (calls : Calls) (d
         stored_follows (prefix_operation operator type (expr program calls a)) from to (λ n s m r told. prefix_follows image function operator type st.0 to st.2 program calls a from st.1 n s m r told)
     discarded_follows (postfix_step operator type a) from to st =
         stored_follows (postfix_operation operator type (expr program calls a)) from to (λ n s m r told. postfix_follows image function operator type st.0 to st.2 program calls a from st.1 n s m r told)
-    discarded_follows e from to st = dropped_follows e from st.0 to st.1 st.2
+    discarded_follows e from to st = dropped_follows (expr program calls e) from st.0 to (expression_gives e from st.0 st.1) st.2
+
+    -- an operand that is neither read nor converted is its expression
+    plain_value : (part : Does store.Value) (s : source.State) → converted None None part s ≡ part s
+    unfolding either gives throws
+    plain_value part s = same (part s)
+      where
+        same : (r : source.Outcome store.Value) → after (after r gives throws) gives throws ≡ r
+        same (on v t) = refl
+        same (source.thrown e t) = refl
+        same (over answer trace) = refl
+
+    plain_full : (part : Does store.Value) (s : source.State) → full_expression program calls (converted None None part) s ≡ full_expression program calls part s
+    unfolding either current_temporaries set_temporaries
+    plain_full part s = ap (λ r. after r (λ v. either last (λ _. gives v) throws) (λ e. either last (λ _. throws e) throws)) (plain_value part (record s { temporaries = [] }))
+      where
+        last : Does Nothing
+        last = either (either current_temporaries (end_each program calls) throws) (λ _. set_temporaries s.temporaries) throws
+
+    expression_follows : (a : Operand) (from to : ℕ) → StandsDropped image function a from to
+        → (first n : ℕ) (s : source.State) (m : State) → IsIn image function first now s m → s.begins ≡ begins_ahead (image_step image) n (running_at m from [])
+        → Follows (image_step image) n s (running_at m from []) of_completion (λ (_ : Nothing) d t. Completed image function first (now ∷ around.scopes) now (λ c p. p ≡ to) s m on_to_next d t) (Never s m)
+        (either (full_expression program calls (used program calls a)) (λ _. gives nothing) throws s)
+    unfolding expr either
+    expression_follows (operand None None e) from to st first n s m i told =
+        subst (λ r. Follows (image_step image) n s (running_at m from []) of_completion (λ (_ : Nothing) d t. Completed image function first (now ∷ around.scopes) now (λ c p. p ≡ to) s m on_to_next d t) (Never s m) r)
+        (ap (λ r. after r (λ _. gives nothing) throws) (sym (plain_full (expr program calls e) s))) (discarded_follows e from to st first n s m i told)
+    expression_follows (operand None (Some type) e) from to st first n s m i told =
+        dropped_follows (used program calls (operand None (Some type) e)) from st.0 to (used_follows image function Never never_on program calls (operand None (Some type) e) from st.0 st.1) st.2 first n s m i told
+    expression_follows (operand (Some type) conversion e) from to st first n s m i told =
+        dropped_follows (used program calls (operand (Some type) conversion e)) from st.0 to (used_follows image function Never never_on program calls (operand (Some type) conversion e) from st.0 st.1) st.2 first n s m i told
 
     declared_follows : (slot : ℕ) (type : ObjectType) → IsSimple type → (a : Operand) (from to : ℕ) → StandsDeclaration image function (now ∷ around.scopes) slot a from to
         → GoesOnTo (slot ∷ now) (completed (variable_of program calls slot type (init program calls (value a)))) from to
@@ -133,12 +168,12 @@ module _ (image : Image) (function : ℕ) (program : Program) (calls : Calls) (d
         completed_follows (slot ∷ now) (variable_of program calls slot type (init program calls (value a))) from to
         (λ first n s m i told. declaration_follows image function program calls (now ∷ around.scopes) slot type simple a from to st s m i.ready first now around.scopes refl i (λ c p. p ≡ to) refl n told)
 
-    pub simple_follows : (a : Stmt) (from to : ℕ) → goes_on a ≡ true → StandsStmt image function around now a from to → GoesOnTo (behind a now) (stmt program calls a) from to
+    pub simple_follows : (a : Stmt Check) (from to : ℕ) → goes_on a ≡ true → StandsStmt image function around now a from to → GoesOnTo (behind a now) (stmt program calls a) from to
     unfolding stmt StandsStmt
     simple_follows empty from to e st = empty_follows from to st
-    simple_follows (expression x) from to e st = completed_follows now (either (full_expression program calls (expr program calls x)) (λ _. gives nothing) throws) from to (discarded_follows x from to st)
+    simple_follows (expression x) from to e st = completed_follows now (either (full_expression program calls (used program calls x)) (λ _. gives nothing) throws) from to (expression_follows x from to st)
     simple_follows (variable_declaration slot (scalar type) (value a)) from to e st = declared_follows slot (scalar type) (tt {0}) a from to st
-    simple_follows (variable_declaration slot pointer (value a)) from to e st = declared_follows slot pointer (tt {0}) a from to st
+    simple_follows (variable_declaration slot (pointer t) (value a)) from to e st = declared_follows slot (pointer t) (tt {0}) a from to st
     simple_follows (variable_declaration slot type init) from to e st = absurd st
     simple_follows (reference_declaration slot e) from to g st =
         completed_follows now (reference_of program calls slot (expr program calls e)) from to
@@ -147,12 +182,12 @@ module _ (image : Image) (function : ℕ) (program : Program) (calls : Calls) (d
 
     -- ---- contract assertions and returned values
 
-    pub assert_follows : (c : Check) (from to : ℕ) → StandsCheck image function Definer c from to → GoesOnTo now (completed (checked program calls Definer (c ∷ []))) from to
-    assert_follows c from to st =
-        completed_follows now (checked program calls Definer (c ∷ [])) from to
+    pub assert_follows : (c : Check) (predicate : Operand) (from to : ℕ) → StandsCheck image function Definer c predicate from to → GoesOnTo now (completed (checked program calls Definer (record { of = c; predicate = predicate } ∷ []))) from to
+    assert_follows c predicate from to st =
+        completed_follows now (checked program calls Definer (record { of = c; predicate = predicate } ∷ [])) from to
         (λ first n s m i told. follows_less (image_step image) n s (running_at m from []) of_statement of_completion (λ (_ : Nothing) d t. IsAt function to [] s m d t) (λ (_ : Nothing) d t. Completed image function first (now ∷ around.scopes) now (λ c p. p ≡ to) s m on_to_next d t)
         (Never s m) (Never s m) _ (record { goes_on = omega arith; left = omega arith; in_hand = omega arith }) (λ _ d t g. placed image function first around.scopes now to s m d t i g) (λ e d t f. f)
-        (check_follows image function program calls default Definer c from to st n [] s m (i.ready).agrees told))
+        (check_follows image function program calls default Definer c predicate from to st n [] s m (i.ready).agrees told))
 
     -- the value stays on the operands where the machine goes on to the code that ends the objects
     given_goes_on : (v : store.Value) (p q k : ℕ) (s t : source.State) (m d : State) → GoesOn image function p q → Gives function p [] s m v d t → t.begins ≡ begins_ahead (image_step image) k d

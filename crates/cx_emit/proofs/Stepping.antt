@@ -80,6 +80,7 @@ same_read {B} type a next s = by_value (value_of (leaf_at s.store a))
     by_value (Ok (number n)) = by_range n (in_range type n) (fits_integer (integer_of (object_scalar type)) n) (ap (λ t. fits_integer t n) (is_of type))
     by_value (Ok (address x)) = refl
     by_value (Ok null) = refl
+    by_value (Ok (store.function x)) = refl
     by_value (Ok (violation x)) = refl
 
 first_load : (image : Image) (function from to : ℕ) (type : IntegerType) → StandsNumberLoad image function (Some type) from to → operation_at image function from ≡ Some does.Load
@@ -154,6 +155,7 @@ module _ (image : Image) (function : ℕ) (operator : BinaryOperator) (type : In
         (replaces_follows old n s m r (told ∙ ap (λ w. begins_ahead (image_step image) n (running_at m st.1 (w ∷ place ∷ []))) is))
     number_follows (address x) w is n s m r told = record { comes = λ other. absurd (other refl) }
     number_follows null w is n s m r told = record { comes = λ other. absurd (other refl) }
+    number_follows (store.function x) w is n s m r told = absurd is
     number_follows (violation x) w is n s m r told = absurd is
 
     address_follows : Stores (account 0 7 7) st.0 (place ∷ place ∷ []) (step operator type (address a))
@@ -178,6 +180,7 @@ module _ (image : Image) (function : ℕ) (operator : BinaryOperator) (type : In
         noted_so = refl;
       })
   step_follows (number k) w is n s m r told = record { comes = λ other. absurd (other refl) }
+  step_follows (store.function k) w is n s m r told = absurd is
   step_follows (violation k) w is n s m r told = absurd is
 
   -- a part that does so, from the place

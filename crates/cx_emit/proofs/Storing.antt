@@ -196,6 +196,7 @@ module _ (image : Image) (function : ℕ) where
           noted_so = refl;
         }
     assigned_steps s m budget from to r h v (number k) w x is same = λ other. absurd (other refl)
+    assigned_steps s m budget from to r h v (store.function k) w x is same = absurd same
     assigned_steps s m budget from to r h v (violation k) w x is same = absurd same
 
     pub assign_follows : (a : Expr) (b : Operand) (from to : ℕ) → StandsDiscarded image function (assign a b) from to → (n : ℕ) (s : source.State) (m : State) → IsReady image function s m → s.begins ≡ begins_ahead (image_step image) n (running_at m from [])

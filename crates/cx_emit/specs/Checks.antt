@@ -37,11 +37,12 @@ module _ (image : Image) (function : ℕ) where
   abbrev pub StandsTruth : Operand → ℕ → ℕ → Type 0
   StandsTruth a from to = (p : ℕ) × StandsOperand image function a from p × Has image function p (does.Convert scalars.Bool) to
 
-  abbrev pub StandsEvaluation : Party → ℕ → Check → ℕ → ℕ → Type 0
-  StandsEvaluation party index c from to =
-      (p q r v : ℕ) × Has image function from (does.Begin index party c.semantic) p × StandsTruth c.predicate p q
-      × Has image function q (does.Verdict index) r × Has image function r (does.JumpNonzero to) v × StandsViolated index c.semantic v to
+  abbrev pub StandsEvaluation : Party → ℕ → Semantic → (predicate : Operand) → ℕ → ℕ → Type 0
+  StandsEvaluation party index semantic predicate from to =
+      (p q r v : ℕ) × Has image function from (does.Begin index party semantic) p × StandsTruth predicate p q
+      × Has image function q (does.Verdict index) r × Has image function r (does.JumpNonzero to) v × StandsViolated index semantic v to
 
   -- nothing where it is not evaluated, as under `ignore`
-  abbrev pub StandsCheck : Party → Check → ℕ → ℕ → Type 0
-  StandsCheck party c from to = ((c.times ≡ 0) × (to ≡ from)) ⊎ ((c.times ≡ 1) × (index : ℕ) × IsAssertion image index c.assertion × StandsEvaluation party index c from to)
+  abbrev pub StandsCheck : Party → Check → (predicate : Operand) → ℕ → ℕ → Type 0
+  StandsCheck party c predicate from to =
+      ((c.times ≡ 0) × (to ≡ from)) ⊎ ((c.times ≡ 1) × (index : ℕ) × IsAssertion image index c.assertion × StandsEvaluation party index c.semantic predicate from to)

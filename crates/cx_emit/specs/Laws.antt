@@ -59,6 +59,6 @@ OperandsAreFollowed =
 -- exception leaves the predicate
 abbrev pub ChecksAreFollowed : Type 0
 ChecksAreFollowed =
-    (image : Image) (function : ℕ) (outer : List (ℕ × Region)) (program : Program) (calls : Calls) (party : Party) (check : Check) (from to : ℕ)
-    → HaveDefaultHandler image program → StandsCheck image function party check from to
-    → FollowsEffect image function outer of_statement (checked program calls party (check ∷ [])) from to
+    (image : Image) (function : ℕ) (outer : List (ℕ × Region)) (program : Program) (calls : Calls) (party : Party) (check : Check) (predicate : Operand) (from to : ℕ)
+    → HaveDefaultHandler image program → StandsCheck image function party check predicate from to
+    → FollowsEffect image function outer of_statement (checked program calls party (record { of = check; predicate = predicate } ∷ [])) from to

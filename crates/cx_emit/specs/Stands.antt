@@ -7,7 +7,7 @@ use Rattle.cx_code.specs.declared.operation.Scalar.TheVariants as scalars
 use Rattle.cx_core.specs.declared.number.IntegerType.{IntegerType}
 use Rattle.cx_core.specs.declared.number.IntegerType.TheVariants as types
 use Rattle.cx_core.specs.Operators.{integer_of}
-use Rattle.cx_core.specs.Tree.{ObjectType, scalar, pointer, class, Constant, number, nullptr, Expr, literal, variable, global, unary, binary, logical_and, logical_or, conditional, cast, indirection, putchar, getchar, Operand, operand}
+use Rattle.cx_core.specs.Tree.{ObjectType, scalar, pointer, function_pointer, class, Constant, number, nullptr, Expr, literal, variable, global, unary, binary, logical_and, logical_or, conditional, cast, indirection, putchar, getchar, Operand, operand}
 use Rattle.cx_emit.specs.Configuration.{operation_at, Has}
 use Rattle.cx_emit.specs.Operations.{scalar_of, unary_operation, binary_operation}
 
@@ -30,7 +30,8 @@ module _ (image : Image) (function : ℕ) where
 
   abbrev pub StandsLoad : ObjectType → ℕ → ℕ → Type 0
   StandsLoad (scalar s) from to = StandsNumberLoad (integer_of s) from to
-  StandsLoad pointer from to = Has image function from does.Load to
+  StandsLoad (pointer t) from to = Has image function from does.Load to
+  StandsLoad (function_pointer t) from to = ⊥
   StandsLoad (class index) from to = ⊥
 
   abbrev pub StandsRead : Option ObjectType → ℕ → ℕ → Type 0

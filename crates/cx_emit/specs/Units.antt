@@ -5,11 +5,10 @@ use Rattle.cx_code.specs.declared.image.Function.{Function}
 use Rattle.cx_code.specs.declared.operation.Operation.TheVariants as does
 use Rattle.cx_code.specs.Store.{nothing_made}
 use Rattle.cx_code.specs.State.{with_globals}
-use Rattle.cx_core.specs.Tree.{Stmts}
+use Rattle.cx_core.specs.Tree.{Check, Stmts}
 use Rattle.cx_core.specs.Program.{Program, Checks, exit_status}
 use Rattle.cx_core.specs.Program as source
-use Rattle.cx_core.specs.Leaving.{Calls}
-use Rattle.cx_core.specs.Meaning.{globals_from, caller_checks, main_call}
+use Rattle.cx_core.specs.Meaning.{globals_from}
 use Rattle.cx_core.specs.Runs.{IsFaithful}
 use Rattle.cx_simulation.specs.ImageMachine.{image_run}
 use Rattle.cx_simulation.specs.Parts.{IsWellMade}
@@ -23,15 +22,14 @@ abbrev pub no_checks : Checks
 no_checks = record { preconditions = []; postconditions = [] }
 
 -- `main` is a function with this body, and has no preconditions and postconditions
-pub record IsMain (program : Program) (b : Stmts) : Type 0 where
+pub record IsMain (program : Program) (b : Stmts Check) : Type 0 where
   pub definer : ℕ
   pub noexcept : Bool
   pub is_defined : slice_get program.functions program.main ≡ Some (record { definer = definer; noexcept = noexcept; result = exit_status; checks = no_checks; body = source.function b })
-  pub not_checked : (calls : Calls) → caller_checks program calls (main_call program) ≡ no_checks
 
 -- the image's first function, which counts for the depth of calls, calls another one, which has the code of the body;
 -- where the end of the body is reached, 0 is returned [basic.start.main]
-pub record StandsMain (image : Image) (b : Stmts) : Type 0 where
+pub record StandsMain (image : Image) (b : Stmts Check) : Type 0 where
   pub shell : Function
   pub is_first : slice_get image.functions image.main ≡ Some shell
   pub gives_value : shell.result ≡ true
@@ -59,5 +57,5 @@ pub record HaveGlobals (image : Image) (program : Program) : Type 0 where
 -- all, has only runs that the program permits
 abbrev pub ImagesOfMainAreFaithful : Type 0
 ImagesOfMainAreFaithful =
-    (image : Image) (program : Program) (b : Stmts) → IsWellMade program → HaveDefaultHandler image program → IsMain program b → StandsMain image b → HaveGlobals image program
+    (image : Image) (program : Program) (b : Stmts Check) → IsWellMade program → HaveDefaultHandler image program → IsMain program b → StandsMain image b → HaveGlobals image program
     → IsFaithful (image_run image) program

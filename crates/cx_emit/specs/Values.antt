@@ -3,14 +3,15 @@ use Rattle.std.specs.Prelude.{◌≡◌, ◌⊎◌, ℕ, ◌^◌, pos, ◌-ℤ�
 use Rattle.cx_code.specs.declared.run.Value.{Value}
 use Rattle.cx_code.specs.declared.run.Value.TheVariants as values
 use Rattle.cx_code.specs.Store as machine
-use Rattle.cx_core.specs.Store.{Address, number, address, null, violation, Leaf, Object, Store, leaves_of}
+use Rattle.cx_core.specs.Store.{Address, number, address, null, function, violation, Leaf, Object, Store, leaves_of}
 use Rattle.cx_core.specs.Store as source
 
--- without a handler of its own a program handles no violation
+-- without a handler of its own a program handles no violation; the machine has no value that is a function
 abbrev pub IsValue : source.Value → Value → Type 0
 IsValue (number n) v = v ≡ values.Number n
 IsValue (address a) v = v ≡ values.Address a.object a.leaf
 IsValue null v = v ≡ values.Null
+IsValue (function f) v = ⊥
 IsValue (violation told) v = ⊥
 
 -- a leaf keeps a value; the number of a global that is 2^63 or more stands there less 2^64, as an image spells it, until
@@ -19,6 +20,7 @@ abbrev pub Keeps : source.Value → Value → Type 0
 Keeps (number n) v = (v ≡ values.Number n) ⊎ ((pos (2 ^ 63) ≤ℤ n) × (v ≡ values.Number (n -ℤ pos (2 ^ 64))))
 Keeps (address a) v = v ≡ values.Address a.object a.leaf
 Keeps null v = v ≡ values.Null
+Keeps (function f) v = ⊥
 Keeps (violation told) v = ⊥
 
 abbrev pub IsLeaf : Leaf → Option Value → Type 0

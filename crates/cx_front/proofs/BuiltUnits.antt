@@ -1,9 +1,8 @@
 -- The unit of a tree is one that is lowered.
-use Rattle.std.proofs.Common.{◌≡◌, ℕ, suc, ◌≤◌, ◌&&◌, true, List, [], ◌∷◌, length, Option, Some, None, IfSome, get_or, All, codes, bytes_eq, refl, sym, ap, ◌∙◌, subst, arith}
+use Rattle.std.proofs.Common.{◌≡◌, ℕ, suc, ◌≤◌, ◌&&◌, true, List, [], ◌∷◌, length, Option, Some, None, IfSome, All, codes, bytes_eq, refl, sym, ap, ◌∙◌, subst, arith}
 use Rattle.std.proofs.lemmas.Bool.{and_parts}
 use Rattle.std.proofs.lemmas.List.{length-map}
-use Rattle.std.proofs.lemmas.List.Elements.{recursion_from_All}
-use Rattle.std.proofs.lemmas.Option.{MatchOption-at_some, none-some, slice_get-get_or}
+use Rattle.std.proofs.lemmas.Option.{MatchOption-at_some, none-some}
 use Rattle.cx_syntax.specs.declared.mark.Punct.TheVariants as P
 use Rattle.cx_syntax.specs.Tree as grammar
 use Rattle.cx_syntax.specs.Tree.{Item, Params, Suffix, UnitTree, block, defined, function, more_items, more_specs, no_items, no_params, no_specs, params, suffix}
@@ -13,15 +12,13 @@ use Rattle.cx_includes.specs.declared.assembled.Assembled.{Assembled}
 use Rattle.cx_faults.specs.Faults.{marks_of, tokens_of, token_at}
 use Rattle.cx_core.specs.declared.unit.CoreUnit.{CoreUnit}
 use Rattle.cx_core.specs.declared.unit.Assertion.{Assertion}
-use Rattle.cx_core.specs.Words.{Semantic, Enforce}
-use Rattle.cx_core.specs.Linked.{assertion_of}
-use Rattle.cx_typed.specs.Typed.{IsListed, AreTyped}
-use Rattle.cx_typed.specs.Unit.{body_of}
+use Rattle.cx_typed.specs.Typed.{AreTypedIn}
+use Rattle.cx_core.specs.View.{stmts_of}
 use Rattle.cx_typed.specs.Built.{IsBuilt}
 use Rattle.cx_front.specs.Front.{word_at, type_in, all_assertions_in, stmts_in, is_int, is_empty, is_bare, main_in, statements_in, has_short_tokens, body_in, table_in, IsUnitOf, most_tokens}
 use Rattle.cx_front.specs.Laws.{UnitsAreBuilt}
 use Rattle.cx_front.proofs.Options.{only_is, only_some}
-use Rattle.cx_front.proofs.TypedStatements.{AreListed, AreStatements, stmts_are}
+use Rattle.cx_front.proofs.TypedStatements.{AreStatements, stmts_are}
 use Rattle.cx_front.proofs.Sizes.{AreSizedStatements, type_grows, stmts_sized}
 use Rattle.cx_front.proofs.Numbered.{HasShortName, name_is_short, words_are_short, all_files_are_short, all_are_numbered}
 
@@ -65,12 +62,9 @@ length_marks list = marks_length (tokens_of list) (tokens_of list) 0 ∙ length-
 
 -- ---- the unit
 
-listed_in_itself : (table : List Assertion) → AreListed table table
-listed_in_itself table = recursion_from_All (λ (e : Assertion). IsListed table (assertion_of e)) table (λ k d inside. (k, get_or table k d, slice_get-get_or table k d inside, refl))
-
 module _ (list : Assembled) (unit : CoreUnit) (short : All HasShortName list.files) (few : length list.placed ≤ most_tokens) (is : IsUnitOf list unit) where
-  made : (b : grammar.Stmts) → statements_in list is.tree ≡ Some b → (semantic : Semantic) → (has_short_tokens list ≡ true) × (stmts_in semantic list 1 0 [] b ≡ Some (body_of semantic unit is.statements))
-  made b e semantic = only_some (has_short_tokens list) (stmts_in semantic list 1 0 [] b) (body_of semantic unit is.statements) (ap (body_in semantic list) (sym e) ∙ is.body semantic)
+  made : (b : grammar.Stmts) → statements_in list is.tree ≡ Some b → (has_short_tokens list ≡ true) × (stmts_in list 1 0 [] b ≡ Some (stmts_of is.statements))
+  made b e = only_some (has_short_tokens list) (stmts_in list 1 0 [] b) (stmts_of is.statements) (ap (body_in list) (sym e) ∙ is.body)
 
   built_of : (b : grammar.Stmts) → statements_in list is.tree ≡ Some b → IsBuilt unit is.statements
   built_of b e =
@@ -78,23 +72,23 @@ module _ (list : Assembled) (unit : CoreUnit) (short : All HasShortName list.fil
       let its : unit.assertions ≡ table = is.assertions ∙ ap (table_in list) e in
       let size : length (spell is.tree) ≡ length list.placed = ap (λ (w : Spots). length w) is.is_tree.1 ∙ length_numbered 0 (marks_of list) ∙ length_marks list in
       let inside : HasFew (length (spell is.tree)) b = MatchOption-at_some _ _ b e (statements_are_few list is.tree) in
-      let typed : (semantic : Semantic) → AreStatements semantic list table [] 1 b (body_of semantic unit is.statements) =
-      λ semantic. MatchOption-at_some _ _ (body_of semantic unit is.statements) (made b e semantic).1 (stmts_are semantic list table 1 0 [] b) in
-      let sized : (semantic : Semantic) → AreSizedStatements semantic list 1 b (body_of semantic unit is.statements) =
-      λ semantic. MatchOption-at_some _ _ (body_of semantic unit is.statements) (made b e semantic).1 (stmts_sized semantic list (words_are_short list (made b e semantic).0) 1 0 [] b) in
+      let typed : AreStatements list table [] 1 b (stmts_of is.statements) =
+      MatchOption-at_some _ _ (stmts_of is.statements) (made b e).1 (stmts_are list table 1 0 [] b) in
+      let sized : AreSizedStatements list 1 b (stmts_of is.statements) =
+      MatchOption-at_some _ _ (stmts_of is.statements) (made b e).1 (stmts_sized list (words_are_short list (made b e).0) 1 0 [] b) in
       record {
         alone = is.alone;
-        typed = λ semantic. subst (λ (assertions : List Assertion). AreTyped assertions [] (body_of semantic unit is.statements)) (sym its) ((typed semantic).typed (listed_in_itself table));
-        light = λ semantic. omega (arith, (sized semantic).weight inside.0, inside.1, size, few);
+        typed = subst (λ (assertions : List Assertion). AreTypedIn assertions [] (stmts_of is.statements)) (sym its) (typed.typed (record { counted = omega arith; within = omega arith }));
+        light = omega (arith, sized.weight inside.0, inside.1, size, few);
         numbered = rw its (all_are_numbered list 1 b);
-        few_assertions = rw its (omega (arith, (sized Enforce).count inside.0, inside.1, size, few));
-        short_comments = rw its (omega (arith, (sized Enforce).comments inside.0, inside.1, size, few));
+        few_assertions = rw its (omega (arith, sized.count inside.0, inside.1, size, few));
+        short_comments = rw its (omega (arith, sized.comments inside.0, inside.1, size, few));
         short_files = rw its (all_files_are_short list short 1 b);
         short_name = rw is.name (name_is_short list short 0);
       }
 
   found : (o : Option grammar.Stmts) → statements_in list is.tree ≡ o → IsBuilt unit is.statements
-  found None e = absurd (none-some (body_of Enforce unit is.statements) (ap (body_in Enforce list) (sym e) ∙ is.body Enforce))
+  found None e = absurd (none-some (stmts_of is.statements) (ap (body_in list) (sym e) ∙ is.body))
   found (Some b) e = built_of b e
 
 pub units_are_built : UnitsAreBuilt

@@ -15,8 +15,8 @@ use Rattle.cx_core.specs.declared.statement.Statement.{Statement}
 use Rattle.cx_core.specs.declared.statement.Statement.TheVariants as made
 use Rattle.cx_core.specs.declared.statement.Statement.TheFolds.{fold-roll-Statement}
 use Rattle.cx_core.specs.declared.statement.Statement.TheOpen.{Statement-F}
-use Rattle.cx_core.specs.Numbered as view
-use Rattle.cx_core.specs.Numbered.{Numbers, statement_layer, handler_layer}
+use Rattle.cx_core.specs.View as view
+use Rattle.cx_core.specs.View.{statement_layer, handler_layer}
 
 pub opened-evaluate : (e : Expr) (i : ℕ) → stmt_of (rust.Evaluate e i) ≡ grammar.evaluate (expr_of e) i
 opened-evaluate e i = ap stmt_of (sym (rust.rolls-Evaluate e i)) ∙ fold-roll-Stmt grammar.Stmt grammar.Block grammar.Handler grammar.Handlers stmt_step block_step handler_step handlers_step (Stmt-F.Evaluate e i)
@@ -49,5 +49,5 @@ opened-compound b =
     ∙ ap grammar.compound (opened-block b)
 
 -- a block that is made
-pub made-block : (n : Numbers) (b : Vec Statement Global) → view.stmt_of n (made.Block b) ≡ core.block (view.stmts_of n b.items)
-made-block n b = ap (view.stmt_of n) (sym (made.rolls-Block b)) ∙ fold-roll-Statement core.Stmt (core.Handlers → core.Handlers) (statement_layer n) (handler_layer n) (Statement-F.Block b)
+pub made-block : (b : Vec Statement Global) → view.stmt_of (made.Block b) ≡ core.block (view.stmts_of b.items)
+made-block b = ap view.stmt_of (sym (made.rolls-Block b)) ∙ fold-roll-Statement (core.Stmt ℕ) (core.Handlers ℕ → core.Handlers ℕ) statement_layer handler_layer (Statement-F.Block b)

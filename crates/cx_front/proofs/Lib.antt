@@ -6,9 +6,9 @@ pub mod Rows
 pub mod Statements
 pub mod CycleArms
 pub mod CycleBranches
+pub mod MadeTrees
 pub mod CycleTrees
 pub mod Arms
-pub mod Tables
 pub mod Sums
 pub mod Units
 pub mod Words

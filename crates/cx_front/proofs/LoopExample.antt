@@ -16,7 +16,6 @@ use Rattle.cx_includes.specs.declared.assembled.Placed.{Placed}
 use Rattle.cx_faults.specs.Faults.{marks_of}
 use Rattle.cx_core.specs.declared.number.IntegerType.TheVariants as types
 use Rattle.cx_core.specs.declared.number.BinaryOperator.TheVariants as operators
-use Rattle.cx_core.specs.Words.{Semantic}
 use Rattle.cx_core.specs.Tree.{Operand, Stmt, Stmts, assign, binary, done, expression, literal, next, operand, return_value, scalar, value, variable, variable_declaration, while_loop}
 use Rattle.cx_core.specs.Tree as core
 use Rattle.cx_front.specs.Front.{body_in, statements_in, table_in, stmt_in, assertions_in}
@@ -66,10 +65,10 @@ constant n = operand None None (literal (core.number (pos n)))
 k_read : Operand
 k_read = operand (Some (scalar scalars.Int)) None (variable 0)
 
-typed_step : Stmt
-typed_step = expression (assign (variable 0) (operand None None (binary operators.Add types.Int k_read (constant 1))))
+typed_step : Stmt ℕ
+typed_step = expression (operand None None (assign (variable 0) (operand None None (binary operators.Add types.Int k_read (constant 1)))))
 
-typed : Stmts
+typed : Stmts ℕ
 typed =
     next (variable_declaration 0 (scalar scalars.Int) (value (constant 0)))
     (next (while_loop (operand None None (binary operators.Less types.Int k_read (constant 3))) typed_step)
@@ -81,9 +80,9 @@ spelled : spell tree ≡ numbered 0 (marks_of list)
 unfolding list token k_at zero_set step loop tree marks_from name_mark number first_place some_below declares_at words puncts
 spelled = refl
 
-is_typed : (semantic : Semantic) → body_in semantic list (statements_in list tree) ≡ Some typed
+is_typed : body_in list (statements_in list tree) ≡ Some typed
 unfolding list token k_at zero_set step loop tree constant k_read typed_step typed stmt_in
-is_typed semantic = refl
+is_typed = refl
 
 no_assertions : table_in list (statements_in list tree) ≡ []
 unfolding list token k_at zero_set step loop tree assertions_in

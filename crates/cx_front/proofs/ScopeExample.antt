@@ -23,9 +23,7 @@ use Rattle.cx_core.specs.declared.number.IntegerType.TheVariants as types
 use Rattle.cx_core.specs.declared.number.BinaryOperator.TheVariants as operators
 use Rattle.cx_core.specs.declared.number.UnaryOperator.TheVariants as unary_operators
 use Rattle.cx_core.specs.declared.unit.Assertion.{Assertion}
-use Rattle.cx_core.specs.Words.{Semantic}
-use Rattle.cx_core.specs.Linked.{assertion_of, times_under}
-use Rattle.cx_core.specs.Tree.{Operand, Stmt, Stmts, binary, contract_assert, done, expression, if_else, literal, next, operand, putchar, return_value, scalar, unary, value, variable, variable_declaration}
+use Rattle.cx_core.specs.Tree.{Operand, Stmts, binary, contract_assert, done, expression, if_else, literal, next, operand, putchar, return_value, scalar, unary, value, variable, variable_declaration}
 use Rattle.cx_core.specs.Tree as core
 use Rattle.cx_front.specs.Front.{body_in, statements_in, table_in, stmt_in, stmts_in, assertions_in, expr_in}
 
@@ -86,7 +84,7 @@ outer = more_stmts (more_stmts (more_stmts (more_stmts no_stmts outer_declared) 
 tree : UnitTree
 tree = more_items no_items (function None (type_tree None (word_base W.Int 0) no_stars None) 4 1 (no_params 2 3) (suffix None no_specs) (defined (block 4 outer 51)))
 
--- ---- the typed program
+-- ---- the typed program, whose assertions are named by their indices in the table
 
 constant : Option IntegerType → ℕ → Operand
 constant to n = operand None to (literal (core.number (pos n)))
@@ -107,22 +105,19 @@ second = entry (codes "main#assert2") 76 (codes "true")
 third : Assertion
 third = entry (codes "main#assert3") 99 (codes "- b == 0")
 
-check : Semantic → Assertion → Operand → Stmt
-check semantic a predicate = contract_assert (record { assertion = assertion_of a; semantic = semantic; times = times_under semantic 0; predicate = predicate })
-
 -- the variable of the block hides the outer one, and is seen in its own initialiser
-typed_inner : Semantic → Stmts
-typed_inner semantic =
+typed_inner : Stmts ℕ
+typed_inner =
     next (variable_declaration 1 (scalar scalars.Char) (value (read 1 scalars.Char None)))
-    (next (check semantic first (read 1 scalars.Char None))
-    (next (if_else (operand None None (unary unary_operators.Not types.Bool (read 1 scalars.Char (Some types.Bool)))) (expression (putchar (read 1 scalars.Char (Some types.Int)))) (check semantic second (constant None 1)))
+    (next (contract_assert 0 (read 1 scalars.Char None))
+    (next (if_else (operand None None (unary unary_operators.Not types.Bool (read 1 scalars.Char (Some types.Bool)))) (expression (operand None None (putchar (read 1 scalars.Char (Some types.Int))))) (contract_assert 1 (constant None 1)))
     done))
 
-typed : Semantic → Stmts
-typed semantic =
+typed : Stmts ℕ
+typed =
     next (variable_declaration 0 (scalar scalars.Bool) (value (operand None None (binary operators.Less types.Int (constant (Some types.Int) 97) (constant None 2)))))
-    (next (core.block (typed_inner semantic))
-    (next (check semantic third (operand None None (binary operators.Equal types.Int (operand None None (unary unary_operators.Minus types.Int (read 0 scalars.Bool (Some types.Int)))) (constant None 0))))
+    (next (core.block typed_inner)
+    (next (contract_assert 2 (operand None None (binary operators.Equal types.Int (operand None None (unary unary_operators.Minus types.Int (read 0 scalars.Bool (Some types.Int)))) (constant None 0))))
     (next (return_value (read 0 scalars.Bool (Some types.Int))) done)))
 
 -- ---- each is the one of the other
@@ -135,9 +130,9 @@ spelled : spell tree ≡ numbered 0 (marks_of included)
 unfolding trees token marks_from name_mark number first_place some_below declares_at words puncts
 spelled = refl
 
-is_typed : (semantic : Semantic) → body_in semantic included (statements_in included tree) ≡ Some (typed semantic)
-unfolding trees constant read entry first second third check typed_inner typed stmt_in assertions_in digits
-is_typed semantic = refl
+is_typed : body_in included (statements_in included tree) ≡ Some typed
+unfolding trees constant read typed_inner typed stmt_in assertions_in digits
+is_typed = refl
 
 are_listed : table_in included (statements_in included tree) ≡ first ∷ second ∷ third ∷ []
 unfolding trees entry first second third assertions_in digits
@@ -146,14 +141,14 @@ are_listed = refl
 -- ---- what isn't built
 
 -- a second variable of the name in one block
-declared_twice : (semantic : Semantic) → stmts_in semantic included 1 0 [] (more_stmts (more_stmts no_stmts outer_declared) inner_declared) ≡ None
+declared_twice : stmts_in included 1 0 [] (more_stmts (more_stmts no_stmts outer_declared) inner_declared) ≡ None
 unfolding trees stmt_in
-declared_twice semantic = refl
+declared_twice = refl
 
 -- a declaration that is a branch
-declared_alone : (semantic : Semantic) → stmt_in semantic included 1 0 [] (grammar.branch 23 24 (leaf 36 (M.Word W.True)) 27 inner_declared) ≡ None
+declared_alone : stmt_in included 1 0 [] (grammar.branch 23 24 (leaf 36 (M.Word W.True)) 27 inner_declared) ≡ None
 unfolding trees stmt_in
-declared_alone semantic = refl
+declared_alone = refl
 
 -- a name that no variable has
 undeclared : expr_in included [] (b_at 16) ≡ None
@@ -161,6 +156,6 @@ unfolding trees
 undeclared = refl
 
 -- without <cstdio>
-not_included : (semantic : Semantic) → stmt_in semantic (list None) 1 0 (record { name = 9; of = types.Char } ∷ []) written ≡ None
+not_included : stmt_in (list None) 1 0 (record { name = 9; of = types.Char } ∷ []) written ≡ None
 unfolding trees stmt_in
-not_included semantic = refl
+not_included = refl

@@ -20,12 +20,11 @@ use Rattle.cx_core.specs.declared.number.IntegerType.TheVariants as types
 use Rattle.cx_core.specs.declared.number.BinaryOperator.{BinaryOperator}
 use Rattle.cx_core.specs.declared.number.UnaryOperator.{UnaryOperator}
 use Rattle.cx_core.specs.declared.unit.Assertion.{Assertion}
-use Rattle.cx_core.specs.Words.{Semantic}
 use Rattle.cx_core.specs.Tree as core
 use Rattle.cx_core.specs.Tree.{Stmt, Stmts, done, next}
 use Rattle.cx_typed.specs.Weight.{expr_weight, stmt_weight, stmts_weight}
 use Rattle.cx_front.specs.declared.names.Slot.{Slot}
-use Rattle.cx_front.specs.Front.{Names, Typed, both, only_if, found, word_at, number_of, truth_of, variable_of, leaf_of, unary_operator, binary_operator, with_operand, with_operands, expr_in, words_in, comment_in, statement_of_check, assigned, target_in, is_assign, is_putchar, argument_in, written, discarded_in, type_in, is_new, may_name, with_name, declared, initialised_in, of_type, declared_in, is_declaration, assertions_in, all_assertions_in, names_after, with_last, if_of, while_of, return_of, stmt_in, stmts_in}
+use Rattle.cx_front.specs.Front.{Names, Typed, both, only_if, found, word_at, number_of, truth_of, variable_of, leaf_of, unary_operator, binary_operator, with_operand, with_operands, expr_in, words_in, comment_in, asserted_at, assigned, target_in, is_assign, is_putchar, argument_in, written, discarded_in, type_in, is_new, may_name, with_name, declared, initialised_in, of_type, declared_in, is_declaration, assertions_in, all_assertions_in, names_after, with_last, if_of, while_of, return_of, stmt_in, stmts_in}
 use Rattle.cx_front.proofs.Options.{both_is, map_is, only_is, typed_is}
 
 -- ---- words
@@ -143,10 +142,10 @@ module _ (list : Assembled) where
 -- ---- statements without assertions
 
 -- the tokens of a statement without assertions are at least what it weighs
-abbrev HasWeight : grammar.Stmt → Stmt → Type 0
+abbrev HasWeight : grammar.Stmt → Stmt ℕ → Type 0
 HasWeight t s = (w : Spots) → stmt_weight s + length w ≤ length (spell_stmt t w)
 
-weight_last : (b : Stmts) (s : Stmt) → stmts_weight (with_last b s) ≡ stmts_weight b + stmt_weight s
+weight_last : (b : Stmts ℕ) (s : Stmt ℕ) → stmts_weight (with_last b s) ≡ stmts_weight b + stmt_weight s
 unfolding stmt_weight
 weight_last done s = omega arith
 weight_last (next a rest) s = omega (arith, weight_last rest s)
@@ -212,19 +211,19 @@ module _ (list : Assembled) where
 abbrev pub comment_length : Assertion → ℕ
 comment_length a = length a.comment
 
-module _ (semantic : Semantic) (list : Assembled) where
+module _ (list : Assembled) where
   -- the tokens of a statement are at least what it weighs and its assertions, and no token gives more than 1,025 bytes of a comment
-  pub record IsSizedStatement (ordinal : ℕ) (t : grammar.Stmt) (s : Stmt) : Type 0 where
+  pub record IsSizedStatement (ordinal : ℕ) (t : grammar.Stmt) (s : Stmt ℕ) : Type 0 where
     pub weight : HasWeight t s
     pub count : (w : Spots) → length (assertions_in list ordinal t) + length w ≤ length (spell_stmt t w)
     pub comments : (w : Spots) → sum_by comment_length (assertions_in list ordinal t) + 1025 * length w ≤ 1025 * length (spell_stmt t w)
 
-  pub record AreSizedStatements (ordinal : ℕ) (b : grammar.Stmts) (ss : Stmts) : Type 0 where
+  pub record AreSizedStatements (ordinal : ℕ) (b : grammar.Stmts) (ss : Stmts ℕ) : Type 0 where
     pub weight : (w : Spots) → stmts_weight ss + length w ≤ length (spell_stmts b w)
     pub count : (w : Spots) → length (all_assertions_in list ordinal b) + length w ≤ length (spell_stmts b w)
     pub comments : (w : Spots) → sum_by comment_length (all_assertions_in list ordinal b) + 1025 * length w ≤ 1025 * length (spell_stmts b w)
 
-  plain_sized : (ordinal : ℕ) (t : grammar.Stmt) (o : Option Stmt) → assertions_in list ordinal t ≡ [] → IfSome o (HasWeight t) → IfSome o (IsSizedStatement ordinal t)
+  plain_sized : (ordinal : ℕ) (t : grammar.Stmt) (o : Option (Stmt ℕ)) → assertions_in list ordinal t ≡ [] → IfSome o (HasWeight t) → IfSome o (IsSizedStatement ordinal t)
   plain_sized ordinal t o none h =
       IfSome_then o h (λ s weight. record {
         weight = weight;
@@ -232,7 +231,7 @@ module _ (semantic : Semantic) (list : Assembled) where
         comments = λ w. rw none (omega (arith, weight w));
       })
 
-  block_sized : (ordinal : ℕ) (i : ℕ) (b : grammar.Stmts) (j : ℕ) (ss : Stmts) → AreSizedStatements ordinal b ss → IsSizedStatement ordinal (compound (block i b j)) (core.block ss)
+  block_sized : (ordinal : ℕ) (i : ℕ) (b : grammar.Stmts) (j : ℕ) (ss : Stmts ℕ) → AreSizedStatements ordinal b ss → IsSizedStatement ordinal (compound (block i b j)) (core.block ss)
   unfolding stmt_weight assertions_in
   block_sized ordinal i b j ss h = record {
     weight = λ w. omega (arith, h.weight (sign P.CloseBrace j w));
@@ -240,7 +239,7 @@ module _ (semantic : Semantic) (list : Assembled) where
     comments = λ w. omega (arith, h.comments (sign P.CloseBrace j w));
   }
 
-  if_sized : (ordinal : ℕ) (i j : ℕ) (c : grammar.Expr) (k : ℕ) (a : grammar.Stmt) (condition : Option Typed) (o : Option Stmt) → IfSome condition (IsSized list c) → IfSome o (IsSizedStatement ordinal a)
+  if_sized : (ordinal : ℕ) (i j : ℕ) (c : grammar.Expr) (k : ℕ) (a : grammar.Stmt) (condition : Option Typed) (o : Option (Stmt ℕ)) → IfSome condition (IsSized list c) → IfSome o (IsSizedStatement ordinal a)
       → IfSome (if_of condition o (Some core.empty)) (IsSizedStatement ordinal (branch i j c k a))
   unfolding stmt_weight expr_weight assertions_in
   if_sized ordinal i j c k a None o h f = tt
@@ -251,7 +250,7 @@ module _ (semantic : Semantic) (list : Assembled) where
     comments = λ w. omega (arith, h.weight (sign P.CloseParen k (spell_stmt a w)), f.comments w);
   }
 
-  if_else_sized : (ordinal : ℕ) (i j : ℕ) (c : grammar.Expr) (k : ℕ) (a : grammar.Stmt) (l : ℕ) (b : grammar.Stmt) (condition : Option Typed) (o p : Option Stmt) → IfSome condition (IsSized list c) → IfSome o (IsSizedStatement ordinal a)
+  if_else_sized : (ordinal : ℕ) (i j : ℕ) (c : grammar.Expr) (k : ℕ) (a : grammar.Stmt) (l : ℕ) (b : grammar.Stmt) (condition : Option Typed) (o p : Option (Stmt ℕ)) → IfSome condition (IsSized list c) → IfSome o (IsSizedStatement ordinal a)
       → IfSome p (IsSizedStatement (ordinal + length (assertions_in list ordinal a)) b) → IfSome (if_of condition o p) (IsSizedStatement ordinal (branches i j c k a l b))
   unfolding stmt_weight expr_weight assertions_in
   if_else_sized ordinal i j c k a l b None o p h f g = tt
@@ -272,7 +271,7 @@ module _ (semantic : Semantic) (list : Assembled) where
             omega (arith, h.weight (sign P.CloseParen k (spell_stmt a other)), f.comments other, g.comments w, sum_by-append comment_length first second);
       }
 
-  while_sized : (ordinal : ℕ) (i j : ℕ) (c : grammar.Expr) (k : ℕ) (body : grammar.Stmt) (e : Typed) (s : Stmt) → IsSized list c e → IsSizedStatement ordinal body s → IsSizedStatement ordinal (while_loop i j c k body) (while_of e s)
+  while_sized : (ordinal : ℕ) (i j : ℕ) (c : grammar.Expr) (k : ℕ) (body : grammar.Stmt) (e : Typed) (s : Stmt ℕ) → IsSized list c e → IsSizedStatement ordinal body s → IsSizedStatement ordinal (while_loop i j c k body) (while_of e s)
   unfolding stmt_weight expr_weight assertions_in
   while_sized ordinal i j c k body e s h f = record {
     weight = λ w. omega (arith, h.weight (sign P.CloseParen k (spell_stmt body w)), f.weight w);
@@ -284,7 +283,7 @@ module _ (semantic : Semantic) (list : Assembled) where
   unfolding stmt_weight expr_weight
   return_sized ordinal i t j e h w = omega (arith, h.weight (sign P.Semicolon j w))
 
-  more_sized : (ordinal : ℕ) (b : grammar.Stmts) (t : grammar.Stmt) (ss : Stmts) (s : Stmt) → AreSizedStatements ordinal b ss → IsSizedStatement (ordinal + length (all_assertions_in list ordinal b)) t s → AreSizedStatements ordinal (more_stmts b t) (with_last ss s)
+  more_sized : (ordinal : ℕ) (b : grammar.Stmts) (t : grammar.Stmt) (ss : Stmts ℕ) (s : Stmt ℕ) → AreSizedStatements ordinal b ss → IsSizedStatement (ordinal + length (all_assertions_in list ordinal b)) t s → AreSizedStatements ordinal (more_stmts b t) (with_last ss s)
   unfolding assertions_in
   more_sized ordinal b t ss s h k =
       let first = all_assertions_in list ordinal b in
@@ -300,7 +299,7 @@ module _ (semantic : Semantic) (list : Assembled) where
     comment_sized t e w h = omega (arith, joined (words_in list t) (words_are_short list short t), h.words w)
 
     assert_sized : (ordinal : ℕ) (i j : ℕ) (t : grammar.Expr) (k l : ℕ) (word : Option Placed) (e : Option Typed) → slice_get list.placed i ≡ word → IfSome e (IsSized list t)
-        → IfSome (both (statement_of_check semantic list ordinal t) word e) (IsSizedStatement ordinal (asserts i j t k l))
+        → IfSome (both (asserted_at ordinal) word e) (IsSizedStatement ordinal (asserts i j t k l))
     unfolding stmt_weight expr_weight assertions_in
     assert_sized ordinal i j t k l None e is h = tt
     assert_sized ordinal i j t k l (Some word) None is h = tt
@@ -310,29 +309,29 @@ module _ (semantic : Semantic) (list : Assembled) where
       comments = λ w. rw is (omega (arith, comment_sized t e (sign P.CloseParen k (sign P.Semicolon l w)) h));
     }
 
-    branch_sized : (ordinal : ℕ) (t : grammar.Stmt) (o : Option Stmt) → IfSome o (IsSizedStatement ordinal t) → IfSome (only_if (not (is_declaration t)) o) (IsSizedStatement ordinal t)
+    branch_sized : (ordinal : ℕ) (t : grammar.Stmt) (o : Option (Stmt ℕ)) → IfSome o (IsSizedStatement ordinal t) → IfSome (only_if (not (is_declaration t)) o) (IsSizedStatement ordinal t)
     branch_sized ordinal t o h = only_is (IsSizedStatement ordinal t) (not (is_declaration t)) o (λ _. h)
 
     mutual
       unfolding stmt_in assertions_in stmt_weight
 
-      pub stmt_sized : (ordinal base : ℕ) (names : Names) (t : grammar.Stmt) → IfSome (stmt_in semantic list ordinal base names t) (IsSizedStatement ordinal t)
+      pub stmt_sized : (ordinal base : ℕ) (names : Names) (t : grammar.Stmt) → IfSome (stmt_in list ordinal base names t) (IsSizedStatement ordinal t)
       stmt_sized ordinal base names (empty i) = plain_sized ordinal (empty i) (Some core.empty) refl (λ w. omega arith)
       stmt_sized ordinal base names (compound (block i b j)) =
-          map_is (IsSizedStatement ordinal (compound (block i b j))) (AreSizedStatements ordinal b) core.block (stmts_in semantic list ordinal (length names) names b) (stmts_sized ordinal (length names) names b) (block_sized ordinal i b j)
+          map_is (IsSizedStatement ordinal (compound (block i b j))) (AreSizedStatements ordinal b) core.block (stmts_in list ordinal (length names) names b) (stmts_sized ordinal (length names) names b) (block_sized ordinal i b j)
       stmt_sized ordinal base names (evaluate e i) = plain_sized ordinal (evaluate e i) (discarded_in list names e) refl (discarded_sized list names e i)
       stmt_sized ordinal base names (declare l i) = plain_sized ordinal (declare l i) (declared_in list base names l) refl (declaration_sized list base names l i)
       stmt_sized ordinal base names (branch i j c k a) =
-          let inner = stmt_in semantic list ordinal (length names) names a in
+          let inner = stmt_in list ordinal (length names) names a in
           if_sized ordinal i j c k a (expr_in list names c) (only_if (not (is_declaration a)) inner) (expr_sized list names c) (branch_sized ordinal a inner (stmt_sized ordinal (length names) names a))
       stmt_sized ordinal base names (branches i j c k a l b) =
           let later = ordinal + length (assertions_in list ordinal a) in
-          let first = stmt_in semantic list ordinal (length names) names a in
-          let second = stmt_in semantic list later (length names) names b in
+          let first = stmt_in list ordinal (length names) names a in
+          let second = stmt_in list later (length names) names b in
           if_else_sized ordinal i j c k a l b (expr_in list names c) (only_if (not (is_declaration a)) first) (only_if (not (is_declaration b)) second) (expr_sized list names c)
           (branch_sized ordinal a first (stmt_sized ordinal (length names) names a)) (branch_sized later b second (stmt_sized later (length names) names b))
       stmt_sized ordinal base names (while_loop i j c k body) =
-          let inner = stmt_in semantic list ordinal (length names) names body in
+          let inner = stmt_in list ordinal (length names) names body in
           both_is (IsSizedStatement ordinal (while_loop i j c k body)) (IsSized list c) (IsSizedStatement ordinal body) while_of (expr_in list names c) (only_if (not (is_declaration body)) inner)
           (expr_sized list names c) (branch_sized ordinal body inner (stmt_sized ordinal (length names) names body)) (while_sized ordinal i j c k body)
       stmt_sized ordinal base names (returns i (Some e) j) =
@@ -341,9 +340,9 @@ module _ (semantic : Semantic) (list : Assembled) where
       stmt_sized ordinal base names (asserts i j e k l) = assert_sized ordinal i j e k l (slice_get list.placed i) (expr_in list names e) refl (expr_sized list names e)
       stmt_sized ordinal base names other = tt
 
-      pub stmts_sized : (ordinal base : ℕ) (names : Names) (b : grammar.Stmts) → IfSome (stmts_in semantic list ordinal base names b) (AreSizedStatements ordinal b)
+      pub stmts_sized : (ordinal base : ℕ) (names : Names) (b : grammar.Stmts) → IfSome (stmts_in list ordinal base names b) (AreSizedStatements ordinal b)
       stmts_sized ordinal base names no_stmts = record { weight = λ w. omega arith; count = λ w. omega arith; comments = λ w. omega arith }
       stmts_sized ordinal base names (more_stmts b s) =
           let later = ordinal + length (all_assertions_in list ordinal b) in
-          both_is (AreSizedStatements ordinal (more_stmts b s)) (AreSizedStatements ordinal b) (IsSizedStatement later s) with_last (stmts_in semantic list ordinal base names b) (stmt_in semantic list later base (names_after names b) s)
+          both_is (AreSizedStatements ordinal (more_stmts b s)) (AreSizedStatements ordinal b) (IsSizedStatement later s) with_last (stmts_in list ordinal base names b) (stmt_in list later base (names_after names b) s)
           (stmts_sized ordinal base names b) (stmt_sized later base (names_after names b) s) (more_sized ordinal b s)

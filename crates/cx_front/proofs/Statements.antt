@@ -1,6 +1,6 @@
 -- The statements of a tree, one after another, and the tables of their assertions.
-use Rattle.std.proofs.Common.{◌≡◌, ℕ, ◌+◌, ◌<◌, Bool, true, false, List, [], ◌∷◌, ◌++◌, Option, Some, None, zero, suc, length, get_or, map, take, drop, refl, sym, ap, ◌∙◌, subst, arith, append_assoc, append-nil, length-append}
-use Rattle.std.specs.Prelude.{◌&&◌, fold, slice_get}
+use Rattle.std.proofs.Common.{◌≡◌, ℕ, ◌+◌, ◌<◌, Bool, true, false, List, [], ◌∷◌, ◌++◌, Option, Some, None, length, get_or, map, take, drop, refl, sym, ap, ◌∙◌, arith, append_assoc, append-nil, length-append}
+use Rattle.std.specs.Prelude.{◌&&◌, fold}
 use Rattle.std.proofs.lemmas.List.{map-append, take_at, take-append-drop, take_more}
 use Rattle.std.proofs.lemmas.List.Sums.{fold-append}
 use Rattle.cx_syntax.specs.Tree as grammar
@@ -10,16 +10,13 @@ use Rattle.cx_syntax.specs.View.{stmt_list, stmt_of, stmts_of}
 use Rattle.cx_includes.specs.declared.assembled.Assembled.{Assembled}
 use Rattle.cx_core.specs.declared.unit.Assertion.{Assertion}
 use Rattle.cx_core.specs.declared.statement.Statement.{Statement}
-use Rattle.cx_core.specs.Words.{Semantic}
 use Rattle.cx_core.specs.Tree as core
 use Rattle.cx_core.specs.Tree.{Stmts as Stmts'}
 use Rattle.cx_core.specs.declared.number.IntegerType.{IntegerType}
-use Rattle.cx_core.specs.Numbered as view
-use Rattle.cx_core.specs.Numbered.{Numbers}
-use Rattle.cx_front.specs.Core.{Tells}
+use Rattle.cx_core.specs.View as view
 use Rattle.cx_front.specs.declared.names.Slot.{Slot}
 use Rattle.cx_front.specs.Front.{Names, Typed, all_assertions_in, assertions_in, both, declared_in, found, if_of, initialised_in, is_declaration, is_new, may_name, names_after, names_behind, of_type, only_if, stmt_in, stmts_in, type_in, with_last, with_typed_name, word_at}
-use Rattle.cx_front.specs.Made.{Told, names_with}
+use Rattle.cx_front.specs.Made.{names_with}
 
 -- ---- trees
 
@@ -31,12 +28,12 @@ stmts_more all i x lt is =
     let front : take (i + 1) all ≡ take i all ++ x ∷ [] = take_more all i x lt ∙ ap (λ (y : Stmt). take i all ++ y ∷ []) (sym is) in
     ap stmts_of front ∙ stmts_last (take i all) x
 
-made_last : (s : List core.Stmt) (x : core.Stmt) → view.stmts (s ++ x ∷ []) ≡ with_last (view.stmts s) x
+made_last : (s : List (core.Stmt ℕ)) (x : (core.Stmt ℕ)) → view.stmts (s ++ x ∷ []) ≡ with_last (view.stmts s) x
 made_last [] x = refl
 made_last (y ∷ s) x = ap (core.next y) (made_last s x)
 
-pub made_more : (n : Numbers) (s : List Statement) (x : Statement) → view.stmts_of n (s ++ x ∷ []) ≡ with_last (view.stmts_of n s) (view.stmt_of n x)
-made_more n s x = ap view.stmts (map-append (view.stmt_of n) s (x ∷ [])) ∙ made_last (map (view.stmt_of n) s) (view.stmt_of n x)
+pub made_more : (s : List Statement) (x : Statement) → view.stmts_of (s ++ x ∷ []) ≡ with_last (view.stmts_of s) (view.stmt_of x)
+made_more s x = ap view.stmts (map-append view.stmt_of s (x ∷ [])) ∙ made_last (map view.stmt_of s) (view.stmt_of x)
 
 -- ---- options
 
@@ -44,26 +41,15 @@ pub both_none : {A B C : Type 0} (f : A → B → C) (a : Option A) → both f a
 both_none f None = refl
 both_none f (Some a) = refl
 
-pub if_none : (c : Option Typed) (b : Option core.Stmt) → if_of c None b ≡ None
+pub if_none : (c : Option Typed) (b : Option (core.Stmt ℕ)) → if_of c None b ≡ None
 if_none None b = refl
 if_none (Some c) None = refl
 if_none (Some c) (Some b) = refl
 
-pub if_none_else : (c : Option Typed) (a : Option core.Stmt) → if_of c a None ≡ None
+pub if_none_else : (c : Option Typed) (a : Option (core.Stmt ℕ)) → if_of c a None ≡ None
 if_none_else None a = refl
 if_none_else (Some c) None = refl
 if_none_else (Some c) (Some a) = refl
-
--- ---- tables
-
--- what is told of a table is told of each front of it
-front_get : (a b : List Assertion) (i : ℕ) (e : Assertion) → slice_get a i ≡ Some e → slice_get (a ++ b) i ≡ Some e
-front_get [] b i e is = absurd (cc)
-front_get (x ∷ a) b zero e is = is
-front_get (x ∷ a) b (suc i) e is = front_get a b i e is
-
-pub tells_front : (n : Numbers) (semantic : Semantic) (a b : List Assertion) → Tells n semantic (a ++ b) → Tells n semantic a
-tells_front n semantic a b tells = λ i e predicate is. tells i e predicate (front_get a b i e is)
 
 -- ---- what is visible
 
@@ -118,44 +104,43 @@ module _ (list : Assembled) where
       ∙ append_assoc table (all_assertions_in list (length table + 1) b) (assertions_in list (length table + 1 + length (all_assertions_in list (length table + 1) b)) s)
 
   -- the statements with one more stand for their tree with one more
-  pub stands_more : (n : Numbers) (semantic : Semantic) (base : ℕ) (names visible : Names) (table front : List Assertion) (b : Stmts) (s : grammar.Stmt) (made : Option Stmts') (told : Option core.Stmt)
+  pub stands_more : (base : ℕ) (names visible : Names) (table front : List Assertion) (b : Stmts) (s : grammar.Stmt) (made : Option (Stmts' ℕ)) (told : Option (core.Stmt ℕ))
       → front ≡ table ++ all_assertions_in list (length table + 1) b → visible ≡ names_after names b
-      → stmts_in semantic list (length table + 1) base names b ≡ made → stmt_in semantic list (length front + 1) base visible s ≡ told
-      → stmts_in semantic list (length table + 1) base names (more_stmts b s) ≡ both with_last made told
+      → stmts_in list (length table + 1) base names b ≡ made → stmt_in list (length front + 1) base visible s ≡ told
+      → stmts_in list (length table + 1) base names (more_stmts b s) ≡ both with_last made told
   unfolding stmts_in
-  stands_more n semantic base names visible table front b s made told at_front seen of_front of_last =
+  stands_more base names visible table front b s made told at_front seen of_front of_last =
       let count : length front + 1 ≡ length table + 1 + length (all_assertions_in list (length table + 1) b) = omega (arith, ap length at_front, length-append table (all_assertions_in list (length table + 1) b)) in
-      let last : stmt_in semantic list (length table + 1 + length (all_assertions_in list (length table + 1) b)) base (names_after names b) s ≡ told =
-      ap (λ (k : ℕ). stmt_in semantic list k base (names_after names b) s) (sym count) ∙ ap (λ (v : Names). stmt_in semantic list (length front + 1) base v s) (sym seen) ∙ of_last in
-      ap (λ (a : Option Stmts'). both with_last a (stmt_in semantic list (length table + 1 + length (all_assertions_in list (length table + 1) b)) base (names_after names b) s)) of_front
+      let last : stmt_in list (length table + 1 + length (all_assertions_in list (length table + 1) b)) base (names_after names b) s ≡ told =
+      ap (λ (k : ℕ). stmt_in list k base (names_after names b) s) (sym count) ∙ ap (λ (v : Names). stmt_in list (length front + 1) base v s) (sym seen) ∙ of_last in
+      ap (λ (a : Option (Stmts' ℕ)). both with_last a (stmt_in list (length table + 1 + length (all_assertions_in list (length table + 1) b)) base (names_after names b) s)) of_front
       ∙ ap (both with_last made) last
 
   -- what isn't built spoils all
-  none_behind : (semantic : Semantic) (ordinal base : ℕ) (names : Names) (s : Stmts) (more : List grammar.Stmt) → stmts_in semantic list ordinal base names s ≡ None → stmts_in semantic list ordinal base names (fold more_stmts s more) ≡ None
+  none_behind : (ordinal base : ℕ) (names : Names) (s : Stmts) (more : List grammar.Stmt) → stmts_in list ordinal base names s ≡ None → stmts_in list ordinal base names (fold more_stmts s more) ≡ None
   unfolding stmts_in
-  none_behind semantic ordinal base names s [] none = none
-  none_behind semantic ordinal base names s (t ∷ more) none = none_behind semantic ordinal base names (more_stmts s t) more (rw none refl)
+  none_behind ordinal base names s [] none = none
+  none_behind ordinal base names s (t ∷ more) none = none_behind ordinal base names (more_stmts s t) more (rw none refl)
 
-  pub spoilt : (semantic : Semantic) (ordinal base : ℕ) (names : Names) (front more : List Stmt) → stmts_in semantic list ordinal base names (stmts_of front) ≡ None → stmts_in semantic list ordinal base names (stmts_of (front ++ more)) ≡ None
-  spoilt semantic ordinal base names front more none =
+  pub spoilt : (ordinal base : ℕ) (names : Names) (front more : List Stmt) → stmts_in list ordinal base names (stmts_of front) ≡ None → stmts_in list ordinal base names (stmts_of (front ++ more)) ≡ None
+  spoilt ordinal base names front more none =
       let same : stmts_of (front ++ more) ≡ fold more_stmts (stmts_of front) (map stmt_of more) = ap stmt_list (map-append stmt_of front more) ∙ fold-append more_stmts no_stmts (map stmt_of front) (map stmt_of more) in
-      ap (stmts_in semantic list ordinal base names) same ∙ none_behind semantic ordinal base names (stmts_of front) (map stmt_of more) none
+      ap (stmts_in list ordinal base names) same ∙ none_behind ordinal base names (stmts_of front) (map stmt_of more) none
 
   -- ---- a loop over statements
 
   module _ (base : ℕ) (names visible : Names) (table front : List Assertion) (all : List Stmt) (i : ℕ) (x : Stmt) where
-    pub step_stands : (n : Numbers) (semantic : Semantic) (more : List Assertion) (told next : List Statement) (s : Statement) → i < length all → x ≡ get_or all i x
+    pub step_stands : (more : List Assertion) (told next : List Statement) (s : Statement) → i < length all → x ≡ get_or all i x
         → front ≡ table ++ all_assertions_in list (length table + 1) (stmts_of (take i all)) → visible ≡ names_after names (stmts_of (take i all))
         → more ≡ front ++ assertions_in list (length front + 1) (stmt_of x) → next ≡ told ++ s ∷ []
-        → (Told n semantic front → Some (view.stmts_of n told) ≡ stmts_in semantic list (length table + 1) base names (stmts_of (take i all)))
-        → Some (view.stmt_of n s) ≡ stmt_in semantic list (length front + 1) base visible (stmt_of x) → Told n semantic more
-        → Some (view.stmts_of n next) ≡ stmts_in semantic list (length table + 1) base names (stmts_of (take (i + 1) all))
-    step_stands n semantic more told next s lt is at_front seen at_more pushed of_front of_last holds =
-        let before : Told n semantic front = record { tells = tells_front n semantic front (assertions_in list (length front + 1) (stmt_of x)) (subst (λ (t : List Assertion). Tells n semantic t) at_more holds.tells) } in
-        ap (λ (l : List Statement). Some (view.stmts_of n l)) pushed
-        ∙ ap (λ (l : Stmts'). Some l) (made_more n told s)
-        ∙ sym (stands_more n semantic base names visible table front (stmts_of (take i all)) (stmt_of x) (Some (view.stmts_of n told)) (Some (view.stmt_of n s)) at_front seen (sym (of_front before)) (sym of_last))
-        ∙ ap (stmts_in semantic list (length table + 1) base names) (sym (stmts_more all i x lt is))
+        → (Some (view.stmts_of told) ≡ stmts_in list (length table + 1) base names (stmts_of (take i all)))
+        → Some (view.stmt_of s) ≡ stmt_in list (length front + 1) base visible (stmt_of x)
+        → Some (view.stmts_of next) ≡ stmts_in list (length table + 1) base names (stmts_of (take (i + 1) all))
+    step_stands more told next s lt is at_front seen at_more pushed of_front of_last =
+        ap (λ (l : List Statement). Some (view.stmts_of l)) pushed
+        ∙ ap (λ (l : Stmts' ℕ). Some l) (made_more told s)
+        ∙ sym (stands_more base names visible table front (stmts_of (take i all)) (stmt_of x) (Some (view.stmts_of told)) (Some (view.stmt_of s)) at_front seen (sym of_front) (sym of_last))
+        ∙ ap (stmts_in list (length table + 1) base names) (sym (stmts_more all i x lt is))
 
     pub step_table : (more : List Assertion) → i < length all → x ≡ get_or all i x → front ≡ table ++ all_assertions_in list (length table + 1) (stmts_of (take i all))
         → more ≡ front ++ assertions_in list (length front + 1) (stmt_of x) → more ≡ table ++ all_assertions_in list (length table + 1) (stmts_of (take (i + 1) all))
@@ -169,18 +154,18 @@ module _ (list : Assembled) where
         last ∙ ap (λ (v : Names). names_behind v (stmt_of x)) seen ∙ ap (names_after names) (sym (stmts_more all i x lt is))
 
     -- a statement that isn't built is among them
-    pub stops : (n : Numbers) (semantic : Semantic) → i < length all → x ≡ get_or all i x
+    pub stops : i < length all → x ≡ get_or all i x
         → front ≡ table ++ all_assertions_in list (length table + 1) (stmts_of (take i all)) → visible ≡ names_after names (stmts_of (take i all))
-        → None ≡ stmt_in semantic list (length front + 1) base visible (stmt_of x)
-        → None ≡ stmts_in semantic list (length table + 1) base names (stmts_of all)
-    stops n semantic lt is at_front seen none =
+        → None ≡ stmt_in list (length front + 1) base visible (stmt_of x)
+        → None ≡ stmts_in list (length table + 1) base names (stmts_of all)
+    stops lt is at_front seen none =
         let b : Stmts = stmts_of (take i all) in
-        let here : stmts_in semantic list (length table + 1) base names (stmts_of (take (i + 1) all)) ≡ None =
-        ap (stmts_in semantic list (length table + 1) base names) (stmts_more all i x lt is)
-        ∙ stands_more n semantic base names visible table front (stmts_of (take i all)) (stmt_of x) (stmts_in semantic list (length table + 1) base names (stmts_of (take i all))) None at_front seen refl (sym none)
-        ∙ both_none with_last (stmts_in semantic list (length table + 1) base names (stmts_of (take i all))) in
-        sym (ap (λ (l : List Stmt). stmts_in semantic list (length table + 1) base names (stmts_of l)) (sym (take-append-drop (i + 1) all))
-        ∙ spoilt semantic (length table + 1) base names (take (i + 1) all) (drop (i + 1) all) here)
+        let here : stmts_in list (length table + 1) base names (stmts_of (take (i + 1) all)) ≡ None =
+        ap (stmts_in list (length table + 1) base names) (stmts_more all i x lt is)
+        ∙ stands_more base names visible table front (stmts_of (take i all)) (stmt_of x) (stmts_in list (length table + 1) base names (stmts_of (take i all))) None at_front seen refl (sym none)
+        ∙ both_none with_last (stmts_in list (length table + 1) base names (stmts_of (take i all))) in
+        sym (ap (λ (l : List Stmt). stmts_in list (length table + 1) base names (stmts_of l)) (sym (take-append-drop (i + 1) all))
+        ∙ spoilt (length table + 1) base names (take (i + 1) all) (drop (i + 1) all) here)
 
 -- ---- a declaration
 

@@ -11,14 +11,9 @@ use Rattle.cx_faults.specs.Faults.{marks_of, tokens_of, token_at}
 use Rattle.cx_core.specs.declared.unit.Assertion.{Assertion}
 use Rattle.cx_core.specs.declared.unit.CoreUnit.{CoreUnit}
 use Rattle.cx_core.specs.declared.statement.Statement.{Statement}
-use Rattle.cx_core.specs.Words.{Semantic, Ignore}
-use Rattle.cx_core.specs.Numbered as view
-use Rattle.cx_core.specs.Numbered.{Numbers}
-use Rattle.cx_typed.specs.Unit.{unit_numbers}
-use Rattle.cx_front.specs.Core.{Tells}
+use Rattle.cx_core.specs.View as view
 use Rattle.cx_front.specs.Front.{Names, all_assertions_in, body_in, has_short_tokens, statements_in, stmts_in, table_in, IsUnitOf}
-use Rattle.cx_front.specs.Made.{IsUnitWith, MadeOf, MadeUnit, Told}
-use Rattle.cx_front.proofs.Tables.{some_numbers, some_tell, tells_unit}
+use Rattle.cx_front.specs.Made.{IsUnitWith, MadeOf, MadeUnit}
 
 -- ---- statements in a body
 
@@ -27,25 +22,25 @@ given_some None x is p = absurd (cc)
 given_some (Some y) x is p = p
 
 pub made_of : (list : Assembled) (tree : Stmts) (unit : CoreUnit) (statements : List Statement) (table more : List Assertion) (names : Names) → table ≡ [] → names ≡ [] → unit.assertions ≡ more
-    → ((n : Numbers) (semantic : Semantic) → Told n semantic more → Some (view.stmts_of n statements) ≡ stmts_in semantic list (length table + 1) (length names) names tree)
+    → (Some (view.stmts_of statements) ≡ stmts_in list (length table + 1) (length names) names tree)
     → more ≡ table ++ all_assertions_in list (length table + 1) tree → IsUnitWith list statements unit → MadeOf list tree unit
 made_of list tree unit statements table more names no_table no_names kept stands added is = record {
   statements = statements;
   is = is;
-  body = λ semantic.
-      ap (λ (v : Names). stmts_in semantic list 1 (length v) v tree) (sym no_names)
-      ∙ ap (λ (t : List Assertion). stmts_in semantic list (length t + 1) (length names) names tree) (sym no_table)
-      ∙ sym (stands (unit_numbers semantic unit) semantic (record { tells = subst (λ (t : List Assertion). Tells (unit_numbers semantic unit) semantic t) kept (tells_unit semantic unit) }));
+  body =
+      ap (λ (v : Names). stmts_in list 1 (length v) v tree) (sym no_names)
+      ∙ ap (λ (t : List Assertion). stmts_in list (length t + 1) (length names) names tree) (sym no_table)
+      ∙ sym stands;
   assertions = kept ∙ added ∙ ap (λ (t : List Assertion). t ++ all_assertions_in list (length t + 1) tree) no_table;
 }
 
 pub none_of : (list : Assembled) (tree : Stmts) (more table : List Assertion) (names : Names) → table ≡ [] → names ≡ []
-    → ((n : Numbers) (semantic : Semantic) → Told n semantic more → None ≡ stmts_in semantic list (length table + 1) (length names) names tree)
-    → (semantic : Semantic) → stmts_in semantic list 1 0 [] tree ≡ None
-none_of list tree more table names no_table no_names stands semantic =
-    ap (λ (v : Names). stmts_in semantic list 1 (length v) v tree) (sym no_names)
-    ∙ ap (λ (t : List Assertion). stmts_in semantic list (length t + 1) (length names) names tree) (sym no_table)
-    ∙ sym (stands (some_numbers semantic more) semantic (record { tells = some_tell semantic more }))
+    → (None ≡ stmts_in list (length table + 1) (length names) names tree)
+    → stmts_in list 1 0 [] tree ≡ None
+none_of list tree more table names no_table no_names stands =
+    ap (λ (v : Names). stmts_in list 1 (length v) v tree) (sym no_names)
+    ∙ ap (λ (t : List Assertion). stmts_in list (length t + 1) (length names) names tree) (sym no_table)
+    ∙ sym stands
 
 -- ---- the body of a tree
 
@@ -53,29 +48,29 @@ pub made_unit : (list : Assembled) (tree : UnitTree) (b : Stmts) (unit : CoreUni
 made_unit list tree b unit is short made = record {
   statements = made.statements;
   is = made.is;
-  body = λ semantic. ap (body_in semantic list) is ∙ rw short (made.body semantic);
+  body = ap (body_in list) is ∙ rw short made.body;
   assertions = made.assertions ∙ sym (ap (table_in list) is);
 }
 
-no_unit : (list : Assembled) (tree : UnitTree) (unit : CoreUnit) → ((semantic : Semantic) → body_in semantic list (statements_in list tree) ≡ None) → MadeUnit list tree unit → ⊥
+no_unit : (list : Assembled) (tree : UnitTree) (unit : CoreUnit) → (body_in list (statements_in list tree) ≡ None) → MadeUnit list tree unit → ⊥
 no_unit list tree unit none made =
-    let here : body_in Ignore list (statements_in list tree) ≡ None = none Ignore in
-    let there : body_in Ignore list (statements_in list tree) ≡ Some (view.stmts_of (unit_numbers Ignore unit) made.statements) = made.body Ignore in
+    let here : body_in list (statements_in list tree) ≡ None = none in
+    let there : body_in list (statements_in list tree) ≡ Some (view.stmts_of made.statements) = made.body in
     absurd (cc)
 
 pub no_statements : (list : Assembled) (tree : UnitTree) → statements_in list tree ≡ None → (unit : CoreUnit) → MadeUnit list tree unit → ⊥
-no_statements list tree none unit made = no_unit list tree unit (λ semantic. ap (body_in semantic list) none) made
+no_statements list tree none unit made = no_unit list tree unit (ap (body_in list) none) made
 
 pub long_tokens : (list : Assembled) (tree : UnitTree) (b : Stmts) → statements_in list tree ≡ Some b → has_short_tokens list ≡ false → (unit : CoreUnit) → MadeUnit list tree unit → ⊥
-long_tokens list tree b is long unit made = no_unit list tree unit (λ semantic. ap (body_in semantic list) is ∙ rw long refl) made
+long_tokens list tree b is long unit made = no_unit list tree unit (ap (body_in list) is ∙ rw long refl) made
 
 both_answers : (list : Assembled) (tree : UnitTree) (b : Stmts) (told : Option CoreUnit) → statements_in list tree ≡ Some b → has_short_tokens list ≡ true
-    → MatchOption told ((semantic : Semantic) → stmts_in semantic list 1 0 [] b ≡ None) (MadeOf list b) → MatchOption told ((unit : CoreUnit) → MadeUnit list tree unit → ⊥) (MadeUnit list tree)
-both_answers list tree b None is short none = λ unit made. no_unit list tree unit (λ semantic. ap (body_in semantic list) is ∙ rw short (none semantic)) made
+    → MatchOption told (stmts_in list 1 0 [] b ≡ None) (MadeOf list b) → MatchOption told ((unit : CoreUnit) → MadeUnit list tree unit → ⊥) (MadeUnit list tree)
+both_answers list tree b None is short none = λ unit made. no_unit list tree unit (ap (body_in list) is ∙ rw short none) made
 both_answers list tree b (Some unit) is short made = made_unit list tree b unit is short made
 
 pub unit_answer : {E : Type 0} (list : Assembled) (tree : UnitTree) (b : Stmts) (r : Result (Option CoreUnit) E) → statements_in list tree ≡ Some b → has_short_tokens list ≡ true
-    → IfOk r (λ told. MatchOption told ((semantic : Semantic) → stmts_in semantic list 1 0 [] b ≡ None) (MadeOf list b)) → IfOk r (λ told. MatchOption told ((unit : CoreUnit) → MadeUnit list tree unit → ⊥) (MadeUnit list tree))
+    → IfOk r (λ told. MatchOption told (stmts_in list 1 0 [] b ≡ None) (MadeOf list b)) → IfOk r (λ told. MatchOption told ((unit : CoreUnit) → MadeUnit list tree unit → ⊥) (MadeUnit list tree))
 unit_answer list tree b (Ok told) is short made = both_answers list tree b told is short made
 unit_answer list tree b (Err e) is short made = made
 
@@ -93,8 +88,8 @@ of_tree list marks tree None same is none =
     let one : other.tree ≡ tree = its.2 other.tree other.is_tree.0 other.is_tree.1 in
     none unit (record {
       statements = other.statements;
-      is = record { alone = other.alone; declares = other.declares; name = other.name; no_calls = other.no_calls; tokens = other.tokens; bytes = other.bytes };
-      body = λ semantic. ap (λ (t : UnitTree). body_in semantic list (statements_in list t)) (sym one) ∙ other.body semantic;
+      is = record { alone = other.alone; declares = other.declares; function_types = other.function_types; definitions = other.definitions; name = other.name; no_calls = other.no_calls; tokens = other.tokens; bytes = other.bytes };
+      body = ap (λ (t : UnitTree). body_in list (statements_in list t)) (sym one) ∙ other.body;
       assertions = other.assertions ∙ ap (λ (t : UnitTree). table_in list (statements_in list t)) one;
     })
 of_tree list marks tree (Some unit) same is made = record {
@@ -103,6 +98,8 @@ of_tree list marks tree (Some unit) same is made = record {
   statements = made.statements;
   alone = made.is.alone;
   declares = made.is.declares;
+  function_types = made.is.function_types;
+  definitions = made.is.definitions;
   body = made.body;
   assertions = made.assertions;
   name = made.is.name;

@@ -1,11 +1,13 @@
 -- Which unit of the typed program a tree of the grammar is, by cases on the tree: `main` of blocks, variables, assignments, `if`, `while`, `return`, `putchar` and assertion statements over literals, names and the operators that compute numbers; a part of [expr], [stmt], [basic.scope] and [basic.start.main]. The names of assertions and the slots of variables are this project's own.
-use Rattle.std.specs.Prelude.{◌≡◌, ◌⊎◌, ℕ, ◌+◌, ◌<◌, suc, ◌&&◌, ◌||◌, not, Bool, true, false, if◌then◌else◌, List, [], ◌∷◌, ◌++◌, Option, Some, None, codes, length, slice_get, unwrap_or, nat_eq, nat_le, min, sum_by, pos}
+use Rattle.std.specs.Prelude.{◌≡◌, ◌⊎◌, ℕ, ◌+◌, ◌-◌, ◌<◌, suc, ◌&&◌, not, Bool, true, false, if◌then◌else◌, List, [], ◌∷◌, ◌++◌, Option, Some, None, codes, length, slice_get, unwrap_or, nat_eq, nat_le, min, sum_by, pos}
 use Rattle.std.specs.Option.{option_map}
 use Rattle.std.specs.List.{All, join_with_byte, list_all}
 use Rattle.std.specs.Str.{bytes_eq}
 use Rattle.std.specs.Fmt.{decimal}
 use Rattle.cx_types.specs.declared.value_type.Scalar.{Scalar}
 use Rattle.cx_types.specs.declared.value_type.Scalar.TheVariants as scalars
+use Rattle.cx_types.specs.declared.value_type.Base.TheVariants as bases
+use Rattle.cx_types.specs.declared.value_type.ValueType.{ValueType}
 use Rattle.cx_code.specs.declared.image.AssertionKind.TheVariants as kinds
 use Rattle.cx_syntax.specs.declared.mark.Mark.{Mark}
 use Rattle.cx_syntax.specs.declared.mark.Mark.TheVariants as M
@@ -30,14 +32,13 @@ use Rattle.cx_core.specs.declared.number.UnaryOperator.TheVariants as unary_oper
 use Rattle.cx_core.specs.declared.unit.CoreUnit.{CoreUnit}
 use Rattle.cx_core.specs.declared.unit.Assertion.{Assertion}
 use Rattle.cx_core.specs.declared.unit.Function.{Function}
+use Rattle.cx_core.specs.declared.unit.FunctionType.{FunctionType}
 use Rattle.cx_core.specs.declared.statement.Statement.{Statement}
-use Rattle.cx_core.specs.Words.{Semantic}
-use Rattle.cx_core.specs.Number.{truth_number}
 use Rattle.cx_core.specs.Tree as core
 use Rattle.cx_core.specs.Tree.{Stmt, Stmts, done, next}
-use Rattle.cx_core.specs.Linked.{assertion_of, times_under}
+use Rattle.cx_core.specs.View.{stmts_of}
 use Rattle.cx_typed.specs.Typed.{unary_type, binary_type}
-use Rattle.cx_typed.specs.Unit.{body_of, IsMainAlone}
+use Rattle.cx_typed.specs.Unit.{IsMainAlone}
 use Rattle.cx_front.specs.declared.names.Variable.{Variable}
 use Rattle.cx_front.specs.declared.names.Slot.{Slot}
 use Rattle.cx_front.specs.Literal.{int_value, char_value}
@@ -87,6 +88,10 @@ scalar_of types.Int = scalars.Int
 scalar_of types.Unsigned = scalars.Unsigned
 scalar_of types.LongLong = scalars.LongLong
 scalar_of types.UnsignedLongLong = scalars.UnsignedLongLong
+
+-- the same, as the trees of a unit have it
+abbrev pub value_type : IntegerType → ValueType
+value_type type = record { base = bases.Scalar (scalar_of type); constant = false; pointers = 0; pointer_consts = 0; reference = false }
 
 -- an expression: how its value is read, where it is an lvalue, and its type
 pub record Typed : Type 0 where
@@ -199,18 +204,15 @@ entry_at list ordinal word e = record {
   comment = comment_in list e;
 }
 
--- evaluated once, and not at all under `ignore`
-abbrev pub check_of : Semantic → Assertion → Typed → core.Check
-check_of semantic a predicate = record { assertion = assertion_of a; semantic = semantic; times = times_under semantic 0; predicate = as_condition predicate }
-
 -- ---- statements
 
-abbrev pub statement_of_check : Semantic → Assembled → (ordinal : ℕ) → grammar.Expr → Placed → Typed → Stmt
-statement_of_check semantic list ordinal e word predicate = core.contract_assert (check_of semantic (entry_at list ordinal word e) predicate)
+-- the assertion that has this ordinal, from 1, by its index in the table, from 0
+abbrev pub asserted_at : (ordinal : ℕ) → Placed → Typed → Stmt ℕ
+asserted_at ordinal word predicate = core.contract_assert (ordinal - 1) (as_condition predicate)
 
 -- an assignment to a variable
-abbrev pub assigned : Slot → Typed → Stmt
-assigned s e = core.expression (core.assign (core.variable s.slot) (as_type s.of e))
+abbrev pub assigned : Slot → Typed → Stmt ℕ
+assigned s e = core.expression (core.operand None None (core.assign (core.variable s.slot) (as_type s.of e)))
 
 abbrev pub target_in : Names → grammar.Expr → Option Slot
 target_in names (leaf i (M.Name n)) = found n names
@@ -234,11 +236,11 @@ abbrev pub argument_in : Assembled → Names → grammar.Args → Option Typed
 argument_in list names (args i (one e) j) = expr_in list names e
 argument_in list names other = None
 
-abbrev pub written : Typed → Stmt
-written e = core.expression (core.putchar (as_type types.Int e))
+abbrev pub written : Typed → Stmt ℕ
+written e = core.expression (core.operand None None (core.putchar (as_type types.Int e)))
 
 -- an assignment, or a byte that is written
-abbrev pub discarded_in : Assembled → Names → grammar.Expr → Option Stmt
+abbrev pub discarded_in : Assembled → Names → grammar.Expr → Option (Stmt ℕ)
 discarded_in list names (grammar.assign i l p j r) = only_if (is_assign p) (both assigned (target_in names l) (expr_in list names r))
 discarded_in list names (call i f a) = only_if (is_putchar list f) (option_map written (argument_in list names a))
 discarded_in list names other = None
@@ -275,11 +277,11 @@ may_name word = not (bytes_eq word (codes "main")) && not (bytes_eq word (codes 
 abbrev pub with_name : Names → (name : ℕ) → IntegerType → Names
 with_name names name type = names ++ record { name = name; of = type } ∷ []
 
-abbrev pub declared : Names → IntegerType → Typed → Stmt
+abbrev pub declared : Names → IntegerType → Typed → Stmt ℕ
 declared names type e = core.variable_declaration (length names) (core.scalar (scalar_of type)) (core.value (as_type type e))
 
 -- a variable is visible in its own initialiser [basic.scope.pdecl]
-abbrev pub initialised_in : Assembled → Names → (name : ℕ) → grammar.Init → IntegerType → Option Stmt
+abbrev pub initialised_in : Assembled → Names → (name : ℕ) → grammar.Init → IntegerType → Option (Stmt ℕ)
 initialised_in list names name (equals i e) type = option_map (declared names type) (expr_in list (with_name names name type) e)
 initialised_in list names name other type = None
 
@@ -287,7 +289,7 @@ abbrev pub of_type : {A : Type 0} → (IntegerType → Option A) → Option Inte
 of_type f None = None
 of_type f (Some type) = f type
 
-abbrev pub declared_in : Assembled → (base : ℕ) → Names → Local → Option Stmt
+abbrev pub declared_in : Assembled → (base : ℕ) → Names → Local → Option (Stmt ℕ)
 declared_in list base names (local type name i init) =
     only_if (is_new base (found name names) && may_name (word_at list i)) (of_type (initialised_in list names name init) (type_in type))
 
@@ -330,24 +332,24 @@ abbrev pub names_after : Names → grammar.Stmts → Names
 names_after names no_stmts = names
 names_after names (more_stmts b s) = names_behind (names_after names b) s
 
-abbrev pub with_last : Stmts → Stmt → Stmts
+abbrev pub with_last : Stmts ℕ → Stmt ℕ → Stmts ℕ
 with_last done s = next s done
 with_last (next a rest) s = next a (with_last rest s)
 
-abbrev pub if_of : Option Typed → Option Stmt → Option Stmt → Option Stmt
+abbrev pub if_of : Option Typed → Option (Stmt ℕ) → Option (Stmt ℕ) → Option (Stmt ℕ)
 if_of None a b = None
 if_of (Some c) a b = both (core.if_else (as_condition c)) a b
 
-abbrev pub while_of : Typed → Stmt → Stmt
+abbrev pub while_of : Typed → Stmt ℕ → Stmt ℕ
 while_of c body = core.while_loop (as_condition c) body
 
-abbrev pub return_of : Typed → Stmt
+abbrev pub return_of : Typed → Stmt ℕ
 return_of e = core.return_value (as_type types.Int e)
 
-module _ (semantic : Semantic) (list : Assembled) where
+module _ (list : Assembled) where
   unfoldable mutual
     -- where the next assertion has this ordinal, in a block that began with `base` variables
-    pub stmt_in : (ordinal base : ℕ) → Names → grammar.Stmt → Option Stmt
+    pub stmt_in : (ordinal base : ℕ) → Names → grammar.Stmt → Option (Stmt ℕ)
     stmt_in ordinal base names (empty i) = Some core.empty
     stmt_in ordinal base names (compound (block i b j)) = option_map core.block (stmts_in ordinal (length names) names b)
     stmt_in ordinal base names (evaluate e i) = discarded_in list names e
@@ -357,11 +359,11 @@ module _ (semantic : Semantic) (list : Assembled) where
         if_of (expr_in list names c) (only_if (not (is_declaration a)) (stmt_in ordinal (length names) names a)) (only_if (not (is_declaration b)) (stmt_in (ordinal + length (assertions_in list ordinal a)) (length names) names b))
     stmt_in ordinal base names (while_loop i j c k body) = both while_of (expr_in list names c) (only_if (not (is_declaration body)) (stmt_in ordinal (length names) names body))
     stmt_in ordinal base names (returns i (Some e) j) = option_map return_of (expr_in list names e)
-    stmt_in ordinal base names (asserts i j e k l) = both (statement_of_check semantic list ordinal e) (slice_get list.placed i) (expr_in list names e)
+    stmt_in ordinal base names (asserts i j e k l) = both (asserted_at ordinal) (slice_get list.placed i) (expr_in list names e)
     stmt_in ordinal base names other = None
 
     -- the statements of a block
-    pub stmts_in : (ordinal base : ℕ) → Names → grammar.Stmts → Option Stmts
+    pub stmts_in : (ordinal base : ℕ) → Names → grammar.Stmts → Option (Stmts ℕ)
     stmts_in ordinal base names no_stmts = Some done
     stmts_in ordinal base names (more_stmts b s) =
         both with_last (stmts_in ordinal base names b) (stmt_in (ordinal + length (all_assertions_in list ordinal b)) base (names_after names b) s)
@@ -402,9 +404,9 @@ longest_token = 1024
 abbrev pub has_short_tokens : Assembled → Bool
 has_short_tokens list = list_all (λ (placed : Placed). nat_le (length (bytes_of_placed list placed)) longest_token) list.placed
 
-abbrev pub body_in : Semantic → Assembled → Option grammar.Stmts → Option Stmts
-body_in semantic list None = None
-body_in semantic list (Some b) = only_if (has_short_tokens list) (stmts_in semantic list 1 0 [] b)
+abbrev pub body_in : Assembled → Option grammar.Stmts → Option (Stmts ℕ)
+body_in list None = None
+body_in list (Some b) = only_if (has_short_tokens list) (stmts_in list 1 0 [] b)
 
 abbrev pub table_in : Assembled → Option grammar.Stmts → List Assertion
 table_in list None = []
@@ -414,8 +416,13 @@ table_in list (Some b) = all_assertions_in list 1 b
 abbrev pub bytes_of : Assembled → ℕ
 bytes_of list = min (sum_by (λ (file : SourceFile). length file.text) list.files) 4294967295
 
--- what linking will compare of `main`
+-- the type of `main`: it gives an `int` and takes nothing
+abbrev pub main_type : FunctionType
+main_type = record { text = codes "int ( )"; result = value_type types.Int; parameters = [] }
+
+-- what linking will compare of `main`; its type is the first one of the unit's table
 pub record DeclaresMain (list : Assembled) (main : Function) : Type 0 where
+  pub type : main.of ≡ 0
   pub signature : main.signature ≡ codes "int ( )"
   pub specifiers : main.specifiers ≡ []
   pub not_inline : main.is_inline ≡ false
@@ -432,8 +439,9 @@ pub record IsUnitOf (list : Assembled) (unit : CoreUnit) : Type 0 where
   pub statements : List Statement
   pub alone : IsMainAlone unit statements
   pub declares : All (DeclaresMain list) unit.functions
-  -- under each semantic that the assertions may have
-  pub body : (semantic : Semantic) → body_in semantic list (statements_in list tree) ≡ Some (body_of semantic unit statements)
+  pub function_types : unit.function_types ≡ main_type ∷ []
+  pub definitions : unit.definitions ≡ 0 ∷ []
+  pub body : body_in list (statements_in list tree) ≡ Some (stmts_of statements)
   pub assertions : unit.assertions ≡ table_in list (statements_in list tree)
   pub name : unit.name ≡ name_of_file list 0
   pub no_calls : unit.calls ≡ []

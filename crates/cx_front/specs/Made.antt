@@ -6,24 +6,17 @@ use Rattle.cx_syntax.specs.Tree as grammar
 use Rattle.cx_syntax.specs.Tree.{local}
 use Rattle.cx_includes.specs.declared.assembled.Assembled.{Assembled}
 use Rattle.cx_core.specs.declared.unit.CoreUnit.{CoreUnit}
-use Rattle.cx_core.specs.declared.unit.Assertion.{Assertion}
 use Rattle.cx_core.specs.declared.statement.Statement.{Statement}
-use Rattle.cx_core.specs.Words.{Semantic}
 use Rattle.cx_core.specs.Tree as core
-use Rattle.cx_core.specs.Numbered.{Numbers}
+use Rattle.cx_core.specs.View.{stmts_of}
 use Rattle.cx_core.specs.declared.unit.Function.{Function}
 use Rattle.cx_core.specs.declared.unit.ResultKind.TheVariants as results
-use Rattle.cx_typed.specs.Unit.{body_of, HasStatements, IsMainAlone}
-use Rattle.cx_front.specs.Core.{Tells}
-use Rattle.cx_front.specs.Front.{Names, DeclaresMain, all_assertions_in, both, body_in, bytes_of, expr_in, is_declaration, name_of_file, only_if, return_of, statement_of_check, statements_in, stmt_in, stmts_in, table_in, type_in, with_typed_name}
+use Rattle.cx_typed.specs.Unit.{HasStatements, IsMainAlone}
+use Rattle.cx_front.specs.Front.{Names, DeclaresMain, all_assertions_in, both, body_in, bytes_of, expr_in, is_declaration, main_type, name_of_file, only_if, return_of, asserted_at, statements_in, stmt_in, stmts_in, table_in, type_in, with_typed_name}
 
--- the assertions of the table are evaluated under the semantic
-pub record Told (n : Numbers) (semantic : Semantic) (table : List Assertion) : Type 0 where
-  pub tells : Tells n semantic table
-
--- a part that is made, or none, stands for what is wanted, where the assertions of the table are evaluated under the semantic
-abbrev pub StandsFor : {A T : Type 0} → (Numbers → A → T) → List Assertion → (Semantic → Option T) → Option A → Type 0
-StandsFor view table wanted told = (n : Numbers) (semantic : Semantic) → Told n semantic table → option_map (view n) told ≡ wanted semantic
+-- a part that is made, or none, stands for what is wanted
+abbrev pub StandsFor : {A T : Type 0} → (A → T) → Option T → Option A → Type 0
+StandsFor view wanted told = option_map view told ≡ wanted
 
 -- tokens behind a text, each with a space in front
 abbrev pub spelled : List ℕ → List (List ℕ) → List ℕ
@@ -31,11 +24,11 @@ spelled text [] = text
 spelled text (word ∷ words) = spelled (text ++ 32 ∷ word) words
 
 -- an assertion statement whose word is the token at a place
-abbrev pub is_asserted : Semantic → Assembled → (ordinal : ℕ) → Names → (i : ℕ) → grammar.Expr → Option core.Stmt
-is_asserted semantic list ordinal names i e = both (statement_of_check semantic list ordinal e) (slice_get list.placed i) (expr_in list names e)
+abbrev pub is_asserted : Assembled → (ordinal : ℕ) → Names → (i : ℕ) → grammar.Expr → Option (core.Stmt ℕ)
+is_asserted list ordinal names i e = both (asserted_at ordinal) (slice_get list.placed i) (expr_in list names e)
 
 -- `return` with a value, where it has one
-abbrev pub returned_in : Assembled → Names → Option grammar.Expr → Option core.Stmt
+abbrev pub returned_in : Assembled → Names → Option grammar.Expr → Option (core.Stmt ℕ)
 returned_in list names None = None
 returned_in list names (Some e) = option_map return_of (expr_in list names e)
 
@@ -44,8 +37,8 @@ abbrev pub names_with : Names → grammar.Local → Names
 names_with names (local type name i init) = with_typed_name names name (type_in type)
 
 -- a branch of `if`, or the body of a loop
-abbrev pub branch_in : Semantic → Assembled → (ordinal : ℕ) → Names → grammar.Stmt → Option core.Stmt
-branch_in semantic list ordinal names s = only_if (not (is_declaration s)) (stmt_in semantic list ordinal (length names) names s)
+abbrev pub branch_in : Assembled → (ordinal : ℕ) → Names → grammar.Stmt → Option (core.Stmt ℕ)
+branch_in list ordinal names s = only_if (not (is_declaration s)) (stmt_in list ordinal (length names) names s)
 
 -- a definition of `main` with these statements
 pub record IsMain (statements : List Statement) (main : Function) : Type 0 where
@@ -60,6 +53,8 @@ pub record IsMain (statements : List Statement) (main : Function) : Type 0 where
 pub record IsUnitWith (list : Assembled) (statements : List Statement) (unit : CoreUnit) : Type 0 where
   pub alone : IsMainAlone unit statements
   pub declares : All (DeclaresMain list) unit.functions
+  pub function_types : unit.function_types ≡ main_type ∷ []
+  pub definitions : unit.definitions ≡ 0 ∷ []
   pub name : unit.name ≡ name_of_file list 0
   pub no_calls : unit.calls ≡ []
   pub tokens : unit.tokens ≡ length list.placed
@@ -69,12 +64,12 @@ pub record IsUnitWith (list : Assembled) (statements : List Statement) (unit : C
 pub record MadeOf (list : Assembled) (tree : grammar.Stmts) (unit : CoreUnit) : Type 0 where
   pub statements : List Statement
   pub is : IsUnitWith list statements unit
-  pub body : (semantic : Semantic) → stmts_in semantic list 1 0 [] tree ≡ Some (body_of semantic unit statements)
+  pub body : stmts_in list 1 0 [] tree ≡ Some (stmts_of statements)
   pub assertions : unit.assertions ≡ all_assertions_in list 1 tree
 
 -- the unit is that of the tree
 pub record MadeUnit (list : Assembled) (tree : grammar.UnitTree) (unit : CoreUnit) : Type 0 where
   pub statements : List Statement
   pub is : IsUnitWith list statements unit
-  pub body : (semantic : Semantic) → body_in semantic list (statements_in list tree) ≡ Some (body_of semantic unit statements)
+  pub body : body_in list (statements_in list tree) ≡ Some (stmts_of statements)
   pub assertions : unit.assertions ≡ table_in list (statements_in list tree)

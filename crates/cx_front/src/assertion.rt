@@ -3,7 +3,7 @@ ghost use Rattle.std.specs.Fmt.{decimal};
 ghost use Rattle.std.specs.List.{All};
 ghost use Rattle.cx_includes.specs.Assembled.{IsWithin};
 ghost use Rattle.cx_syntax.specs.View.{expr_of};
-ghost use Rattle.cx_core.specs.Numbered.{Numbers, stmt_of};
+ghost use Rattle.cx_core.specs.View.{stmt_of};
 ghost use Rattle.cx_core.specs.Tree.{contract_assert};
 ghost use Rattle.cx_front.specs.Core.{typed_of};
 ghost use Rattle.cx_front.specs.Front.{as_condition, entries, entry_at, name_of_file};
@@ -33,7 +33,7 @@ pub fn asserted_in(
     predicate: &Expr,
 ) -> Result<Option<Statement>, NoMemory>
     requires { All (IsWithin list.now.files) list.now.placed }
-    ensures stands { IfOk result (StandsFor stmt_of assertions.new (λ semantic. is_asserted semantic list.now (length assertions.old + 1) names.now at (expr_of predicate.now))) }
+    ensures stands { IfOk result (StandsFor stmt_of (is_asserted list.now (length assertions.old + 1) names.now at (expr_of predicate.now))) }
     ensures added { IfOk result (λ told. OnSome told (assertions.new ≡ assertions.old ++ entries list.now (length assertions.old + 1) (expr_of predicate.now) (slice_get list.now.placed at))) }
 {
     let told = expr_in(alloc, list, names, predicate)?;
@@ -63,7 +63,7 @@ fn placed_at(list: &Assembled, at: u32) -> Option<Placed>
 
 /// The assertion statement of the assertion that has this index in the table.
 fn contract_assert(index: u32, predicate: TypedExpression) -> Statement
-    ensures { (n : Numbers) → stmt_of n result ≡ contract_assert (n.assertion index (as_condition (typed_of n predicate))) }
+    ensures { stmt_of result ≡ contract_assert index (as_condition (typed_of predicate)) }
 {
     Statement::ContractAssert(index, as_condition(predicate))
 }

@@ -1,5 +1,5 @@
 ghost use Rattle.std.specs.Prelude.{◌≡◌, IfOk, Option, Some, option_map};
-ghost use Rattle.cx_core.specs.Numbered.{Numbers, stmt_of};
+ghost use Rattle.cx_core.specs.View.{stmt_of};
 ghost use Rattle.cx_core.specs.Tree.{empty};
 ghost use Rattle.cx_front.specs.Core.{typed_of};
 ghost use Rattle.cx_front.specs.Front.{both, if_of, while_of};
@@ -16,8 +16,7 @@ pub fn if_alone(
     condition: Option<TypedExpression>,
     body: Statement,
 ) -> Result<Option<Statement>, NoMemory>
-    ensures { IfOk result (λ told. (n : Numbers) →
-        option_map (stmt_of n) told ≡ if_of (option_map (typed_of n) condition) (Some (stmt_of n body)) (Some empty)) }
+    ensures { IfOk result (λ told. option_map stmt_of told ≡ if_of (option_map typed_of condition) (Some (stmt_of body)) (Some empty)) }
 {
     if_else(alloc, condition, body, Statement::Empty)
 }
@@ -29,8 +28,7 @@ pub fn if_else(
     body: Statement,
     other: Statement,
 ) -> Result<Option<Statement>, NoMemory>
-    ensures { IfOk result (λ told. (n : Numbers) →
-        option_map (stmt_of n) told ≡ if_of (option_map (typed_of n) condition) (Some (stmt_of n body)) (Some (stmt_of n other))) }
+    ensures { IfOk result (λ told. option_map stmt_of told ≡ if_of (option_map typed_of condition) (Some (stmt_of body)) (Some (stmt_of other))) }
 {
     match condition {
         Some(condition) => {
@@ -48,8 +46,7 @@ pub fn while_loop(
     condition: Option<TypedExpression>,
     body: Statement,
 ) -> Result<Option<Statement>, NoMemory>
-    ensures { IfOk result (λ told. (n : Numbers) →
-        option_map (stmt_of n) told ≡ both while_of (option_map (typed_of n) condition) (Some (stmt_of n body))) }
+    ensures { IfOk result (λ told. option_map stmt_of told ≡ both while_of (option_map typed_of condition) (Some (stmt_of body))) }
 {
     match condition {
         Some(condition) => {

@@ -2,7 +2,7 @@ ghost use Rattle.std.specs.Prelude.{◌≡◌, ◌&&◌, IfOk, OnSome, length, o
 ghost use Rattle.std.specs.List.{All};
 ghost use Rattle.cx_includes.specs.Assembled.{IsWithin};
 ghost use Rattle.cx_syntax.specs.View.{init_of, local_of, stmt_of};
-ghost use Rattle.cx_core.specs.Numbered.{Numbers, stmt_of as core_of};
+ghost use Rattle.cx_core.specs.View.{stmt_of as core_of};
 ghost use Rattle.cx_front.specs.Core.{typed_of};
 ghost use Rattle.cx_front.specs.Front.{declared, declared_in, initialised_in, Names, is_declaration, is_new, may_name, with_name, word_at};
 ghost use Rattle.cx_front.specs.Made.{names_with};
@@ -29,7 +29,7 @@ pub fn declared_in(
     local: &Local,
 ) -> Result<Option<Statement>, NoMemory>
     requires { All (IsWithin list.now.files) list.now.placed }
-    ensures told { IfOk result (λ told. (n : Numbers) → option_map (core_of n) told ≡ declared_in list.now base names.old.items (local_of local.now)) }
+    ensures told { IfOk result (λ told. option_map core_of told ≡ declared_in list.now base names.old.items (local_of local.now)) }
     ensures visible { IfOk result (λ told. OnSome told (names.new.items ≡ names_with names.old.items (local_of local.now))) }
 {
     let before = found(local.name, names.as_slice())?;
@@ -79,7 +79,7 @@ fn initialised_in(
     of: IntegerType,
 ) -> Result<Option<Statement>, NoMemory>
     requires { All (IsWithin list.now.files) list.now.placed }
-    ensures told { IfOk result (λ told. (n : Numbers) → option_map (core_of n) told ≡ initialised_in list.now names.old.items name (init_of init.now) of) }
+    ensures told { IfOk result (λ told. option_map core_of told ≡ initialised_in list.now names.old.items name (init_of init.now) of) }
     ensures visible { IfOk result (λ told. OnSome told (names.new.items ≡ with_name names.old.items name of)) }
 {
     match init {
@@ -95,7 +95,7 @@ fn initialised_in(
 
 /// A variable in its slot, where the value that it begins with is there.
 fn declared(slot: u32, of: IntegerType, value: Option<TypedExpression>) -> Option<Statement>
-    ensures { (n : Numbers) (names : Names) → length names ≡ slot → option_map (core_of n) result ≡ option_map (declared names of) (option_map (typed_of n) value) }
+    ensures { (names : Names) → length names ≡ slot → option_map core_of result ≡ option_map (declared names of) (option_map typed_of value) }
 {
     match value {
         Some(value) => Some(Statement::Variable(

@@ -3,13 +3,13 @@ ghost use Rattle.std.specs.List.{All};
 ghost use Rattle.cx_includes.specs.Assembled.{IsWithin};
 ghost use Rattle.cx_syntax.specs.View.{args_of, expr_of, several_of};
 ghost use Rattle.cx_syntax.specs.Tree.{args};
-ghost use Rattle.cx_core.specs.Numbered.{Numbers, stmt_of};
+ghost use Rattle.cx_core.specs.View.{stmt_of};
 ghost use Rattle.cx_front.specs.Core.{typed_of};
 ghost use Rattle.cx_front.specs.Front.{argument_in, assigned, both, discarded_in, expr_in, is_after, is_assign, is_putchar, only_if, target_in, written};
 
 use crate::expression::expr_in;
 use crate::names::{Slot, Variable, found};
-use crate::operand::as_type;
+use crate::operand::{as_type, unread};
 use crate::token::word_at;
 use crate::typed::TypedExpression;
 use cx_core::{Expression, IntegerType, Statement};
@@ -28,7 +28,7 @@ pub fn discarded_in(
     tree: &Expr,
 ) -> Result<Option<Statement>, NoMemory>
     requires { All (IsWithin list.now.files) list.now.placed }
-    ensures { IfOk result (λ told. (n : Numbers) → option_map (stmt_of n) told ≡ discarded_in list.now names.now (expr_of tree.now)) }
+    ensures { IfOk result (λ told. option_map stmt_of told ≡ discarded_in list.now names.now (expr_of tree.now)) }
 {
     match tree {
         Expr::Assign {
@@ -67,7 +67,7 @@ fn assignment_in(
     right: &Expr,
 ) -> Result<Option<Statement>, NoMemory>
     requires { All (IsWithin list.now.files) list.now.placed }
-    ensures { IfOk result (λ told. (n : Numbers) → option_map (stmt_of n) told ≡ only_if (is_assign punct) (both assigned (target_in names.now (expr_of left.now)) (expr_in list.now names.now (expr_of right.now)))) }
+    ensures { IfOk result (λ told. option_map stmt_of told ≡ only_if (is_assign punct) (both assigned (target_in names.now (expr_of left.now)) (expr_in list.now names.now (expr_of right.now)))) }
 {
     if is_assign(punct) {
         assigned_in(alloc, list, names, left, right)
@@ -85,7 +85,7 @@ fn call_in(
     arguments: &Args,
 ) -> Result<Option<Statement>, NoMemory>
     requires { All (IsWithin list.now.files) list.now.placed }
-    ensures { IfOk result (λ told. (n : Numbers) → option_map (stmt_of n) told ≡ only_if (is_putchar list.now (expr_of callee.now)) (option_map written (argument_in list.now names.now (args_of arguments.now)))) }
+    ensures { IfOk result (λ told. option_map stmt_of told ≡ only_if (is_putchar list.now (expr_of callee.now)) (option_map written (argument_in list.now names.now (args_of arguments.now)))) }
 {
     if is_putchar(list, callee) {
         written_in(alloc, list, names, arguments)
@@ -113,7 +113,7 @@ fn assigned_in(
     right: &Expr,
 ) -> Result<Option<Statement>, NoMemory>
     requires { All (IsWithin list.now.files) list.now.placed }
-    ensures { IfOk result (λ told. (n : Numbers) → option_map (stmt_of n) told ≡ both assigned (target_in names.now (expr_of left.now)) (expr_in list.now names.now (expr_of right.now))) }
+    ensures { IfOk result (λ told. option_map stmt_of told ≡ both assigned (target_in names.now (expr_of left.now)) (expr_in list.now names.now (expr_of right.now))) }
 {
     let target = target_in(names, left)?;
     let value = expr_in(alloc, list, names, right)?;
@@ -128,7 +128,7 @@ fn written_in(
     arguments: &Args,
 ) -> Result<Option<Statement>, NoMemory>
     requires { All (IsWithin list.now.files) list.now.placed }
-    ensures { IfOk result (λ told. (n : Numbers) → option_map (stmt_of n) told ≡ option_map written (argument_in list.now names.now (args_of arguments.now))) }
+    ensures { IfOk result (λ told. option_map stmt_of told ≡ option_map written (argument_in list.now names.now (args_of arguments.now))) }
 {
     let value = argument_in(alloc, list, names, arguments)?;
     written(alloc, value)
@@ -171,14 +171,14 @@ fn assigned(
     target: Option<Slot>,
     value: Option<TypedExpression>,
 ) -> Result<Option<Statement>, NoMemory>
-    ensures { IfOk result (λ told. (n : Numbers) → option_map (stmt_of n) told ≡ both assigned target (option_map (typed_of n) value)) }
+    ensures { IfOk result (λ told. option_map stmt_of told ≡ both assigned target (option_map typed_of value)) }
 {
     match target {
         Some(target) => match value {
             Some(value) => {
                 let place = Box::new(alloc, Expression::Variable(target.slot))?;
                 let value = Box::new(alloc, as_type(target.of, value))?;
-                Ok(Some(Statement::Expression(Expression::Assign(place, value))))
+                Ok(Some(Statement::Expression(unread(Expression::Assign(place, value)))))
             }
             None => Ok(None),
         },
@@ -238,7 +238,7 @@ fn argument_in(
     arguments: &Args,
 ) -> Result<Option<TypedExpression>, NoMemory>
     requires { All (IsWithin list.now.files) list.now.placed }
-    ensures { IfOk result (λ told. (n : Numbers) → option_map (typed_of n) told ≡ argument_in list.now names.now (args_of arguments.now)) }
+    ensures { IfOk result (λ told. option_map typed_of told ≡ argument_in list.now names.now (args_of arguments.now)) }
 {
     match arguments {
         Args::Empty { .. } => Ok(None),
@@ -254,7 +254,7 @@ fn only_of(
     several: &Several,
 ) -> Result<Option<TypedExpression>, NoMemory>
     requires { All (IsWithin list.now.files) list.now.placed }
-    ensures { IfOk result (λ told. (n : Numbers) (i j : ℕ) → option_map (typed_of n) told ≡ argument_in list.now names.now (args i (several_of several.now) j)) }
+    ensures { IfOk result (λ told. (i j : ℕ) → option_map typed_of told ≡ argument_in list.now names.now (args i (several_of several.now) j)) }
 {
     match several.more.as_slice() {
         [] => expr_in(alloc, list, names, &several.first),
@@ -264,12 +264,12 @@ fn only_of(
 
 /// A call of `putchar`, where its argument is there.
 fn written(alloc: Global, value: Option<TypedExpression>) -> Result<Option<Statement>, NoMemory>
-    ensures { IfOk result (λ told. (n : Numbers) → option_map (stmt_of n) told ≡ option_map written (option_map (typed_of n) value)) }
+    ensures { IfOk result (λ told. option_map stmt_of told ≡ option_map written (option_map typed_of value)) }
 {
     match value {
         Some(value) => {
             let value = Box::new(alloc, as_type(IntegerType::Int, value))?;
-            Ok(Some(Statement::Expression(Expression::Putchar(value))))
+            Ok(Some(Statement::Expression(unread(Expression::Putchar(value)))))
         }
         None => Ok(None),
     }

@@ -2,7 +2,6 @@ ghost use Rattle.std.specs.Prelude.{◌≡◌, IfOk, option_map};
 ghost use Rattle.std.specs.List.{All};
 ghost use Rattle.cx_includes.specs.Assembled.{IsWithin};
 ghost use Rattle.cx_syntax.specs.View.{expr_of};
-ghost use Rattle.cx_core.specs.Numbered.{Numbers};
 ghost use Rattle.cx_front.specs.Core.{typed_of};
 ghost use Rattle.cx_front.specs.Front.{expr_in};
 
@@ -32,7 +31,7 @@ pub fn expr_in(
     tree: &tree::Expr,
 ) -> Result<Option<TypedExpression>, NoMemory>
     requires { All (IsWithin list.now.files) list.now.placed }
-    ensures { IfOk result (λ told. (n : Numbers) → option_map (typed_of n) told ≡ expr_in list.now names.now (expr_of tree.now)) }
+    ensures { IfOk result (λ told. option_map typed_of told ≡ expr_in list.now names.now (expr_of tree.now)) }
 {
     match tree {
         tree::Expr::Leaf { at, mark } => leaf_of(names, word_at(list, *at), *mark),

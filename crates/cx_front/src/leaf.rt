@@ -1,5 +1,4 @@
 ghost use Rattle.std.specs.Prelude.{◌≡◌, IfOk, option_map, pos};
-ghost use Rattle.cx_core.specs.Numbered.{Numbers};
 ghost use Rattle.cx_core.specs.Tree.{literal, number};
 ghost use Rattle.cx_core.specs.declared.number.IntegerType.TheVariants.{Char, Int};
 ghost use Rattle.cx_front.specs.Core.{typed_of};
@@ -18,7 +17,7 @@ pub fn leaf_of(
     word: &[u8],
     mark: Mark,
 ) -> Result<Option<TypedExpression>, NoMemory>
-    ensures { IfOk result (λ told. (n : Numbers) → option_map (typed_of n) told ≡ leaf_of names.now word.now mark) }
+    ensures { IfOk result (λ told. option_map typed_of told ≡ leaf_of names.now word.now mark) }
 {
     match mark {
         Mark::Number => Ok(int_literal(int_value(word))),
@@ -31,7 +30,7 @@ pub fn leaf_of(
 
 /// A literal of type `int`, where it has a value.
 fn int_literal(value: Option<u32>) -> Option<TypedExpression>
-    ensures { (n : Numbers) → option_map (typed_of n) result ≡ number_of Int value }
+    ensures { option_map typed_of result ≡ number_of Int value }
 {
     match value {
         Some(value) => Some(literal(IntegerType::Int, value)),
@@ -41,7 +40,7 @@ fn int_literal(value: Option<u32>) -> Option<TypedExpression>
 
 /// A literal of type `char`, where it has a value.
 fn char_literal(value: Option<u8>) -> Option<TypedExpression>
-    ensures { (n : Numbers) → option_map (typed_of n) result ≡ number_of Char value }
+    ensures { option_map typed_of result ≡ number_of Char value }
 {
     match value {
         Some(value) => Some(literal(IntegerType::Char, u32::from(value))),
@@ -51,7 +50,7 @@ fn char_literal(value: Option<u8>) -> Option<TypedExpression>
 
 /// A literal of a type.
 fn literal(gives: IntegerType, value: u32) -> TypedExpression
-    ensures { (n : Numbers) → typed_of n result ≡ prvalue gives (literal (number (pos value))) }
+    ensures { typed_of result ≡ prvalue gives (literal (number (pos value))) }
 {
     TypedExpression {
         read: None,
@@ -62,7 +61,7 @@ fn literal(gives: IntegerType, value: u32) -> TypedExpression
 
 /// The truth that a keyword is, if it is `true` or `false` [lex.bool].
 fn truth_of(word: Word) -> Option<TypedExpression>
-    ensures { (n : Numbers) → option_map (typed_of n) result ≡ truth_of word }
+    ensures { option_map typed_of result ≡ truth_of word }
 {
     match word {
         Word::True => Some(literal(IntegerType::Bool, 1)),
@@ -73,7 +72,7 @@ fn truth_of(word: Word) -> Option<TypedExpression>
 
 /// A variable, which is an lvalue, where a name denotes one.
 fn variable_at(slot: Option<Slot>) -> Option<TypedExpression>
-    ensures { (n : Numbers) → option_map (typed_of n) result ≡ option_map variable_of slot }
+    ensures { option_map typed_of result ≡ option_map variable_of slot }
 {
     match slot {
         Some(slot) => Some(TypedExpression {

@@ -1,7 +1,7 @@
 ghost use Rattle.std.specs.Prelude.{◌≡◌, IfOk};
-ghost use Rattle.cx_core.specs.Numbered.{Numbers, object_type};
+ghost use Rattle.cx_core.specs.View.{object_type};
 ghost use Rattle.cx_core.specs.Tree.{scalar};
-ghost use Rattle.cx_front.specs.Front.{found, scalar_of};
+ghost use Rattle.cx_front.specs.Front.{found, scalar_of, value_type};
 
 use cx_core::IntegerType;
 use cx_outside::NoMemory;
@@ -51,7 +51,8 @@ pub fn number_of(at: usize) -> Result<u32, NoMemory>
 
 /// The type of an object as the typed program has it.
 pub fn value_type(of: IntegerType) -> ValueType
-    ensures { (n : Numbers) → object_type n result ≡ scalar (scalar_of of) }
+    ensures whole { result ≡ value_type of }
+    ensures object { object_type result ≡ scalar (scalar_of of) }
 {
     ValueType {
         base: Base::Scalar(scalar_of(of)),

@@ -1,5 +1,4 @@
 ghost use Rattle.std.specs.Prelude.{◌≡◌, IfOk, option_map};
-ghost use Rattle.cx_core.specs.Numbered.{Numbers};
 ghost use Rattle.cx_typed.specs.Typed.{binary_type, unary_type};
 ghost use Rattle.cx_front.specs.Core.{typed_of};
 ghost use Rattle.cx_front.specs.Front.{binary_operator, both, unary_operator, with_both, with_operand, with_operands};
@@ -80,7 +79,7 @@ pub fn with_operand(
     operator: Option<UnaryOperator>,
     operand: Option<TypedExpression>,
 ) -> Result<Option<TypedExpression>, NoMemory>
-    ensures { IfOk result (λ told. (n : Numbers) → option_map (typed_of n) told ≡ both with_operand operator (option_map (typed_of n) operand)) }
+    ensures { IfOk result (λ told. option_map typed_of told ≡ both with_operand operator (option_map typed_of operand)) }
 {
     match operator {
         Some(operator) => match operand {
@@ -106,7 +105,7 @@ pub fn with_operands(
     left: Option<TypedExpression>,
     right: Option<TypedExpression>,
 ) -> Result<Option<TypedExpression>, NoMemory>
-    ensures { IfOk result (λ told. (n : Numbers) → option_map (typed_of n) told ≡ with_operands operator (option_map (typed_of n) left) (option_map (typed_of n) right)) }
+    ensures { IfOk result (λ told. option_map typed_of told ≡ with_operands operator (option_map typed_of left) (option_map typed_of right)) }
 {
     match operator {
         Some(operator) => match left {
@@ -127,7 +126,7 @@ fn with_both(
     left: TypedExpression,
     right: TypedExpression,
 ) -> Result<TypedExpression, NoMemory>
-    ensures { IfOk result (λ told. (n : Numbers) → typed_of n told ≡ with_both operator (typed_of n left) (typed_of n right)) }
+    ensures { IfOk result (λ told. typed_of told ≡ with_both operator (typed_of left) (typed_of right)) }
 {
     let left = Box::new(alloc, as_type(IntegerType::Int, left))?;
     let right = Box::new(alloc, as_type(IntegerType::Int, right))?;

@@ -2,7 +2,7 @@ ghost use Rattle.std.specs.Prelude.{◌≡◌, IfOk, option_map};
 ghost use Rattle.std.specs.List.{All};
 ghost use Rattle.cx_includes.specs.Assembled.{IsWithin};
 ghost use Rattle.cx_syntax.specs.View.{expr_of};
-ghost use Rattle.cx_core.specs.Numbered.{Numbers, stmt_of};
+ghost use Rattle.cx_core.specs.View.{stmt_of};
 ghost use Rattle.cx_front.specs.Core.{typed_of};
 ghost use Rattle.cx_front.specs.Front.{return_of};
 ghost use Rattle.cx_front.specs.Made.{returned_in};
@@ -25,7 +25,7 @@ pub fn returned_in(
     value: &Option<Expr>,
 ) -> Result<Option<Statement>, NoMemory>
     requires { All (IsWithin list.now.files) list.now.placed }
-    ensures { IfOk result (λ told. (n : Numbers) → option_map (stmt_of n) told ≡ returned_in list.now names.now (option_map expr_of value.now)) }
+    ensures { IfOk result (λ told. option_map stmt_of told ≡ returned_in list.now names.now (option_map expr_of value.now)) }
 {
     match value {
         Some(value) => {
@@ -38,7 +38,7 @@ pub fn returned_in(
 
 /// `return` of a value, where it is there.
 fn return_of(value: Option<TypedExpression>) -> Option<Statement>
-    ensures { (n : Numbers) → option_map (stmt_of n) result ≡ option_map return_of (option_map (typed_of n) value) }
+    ensures { option_map stmt_of result ≡ option_map return_of (option_map typed_of value) }
 {
     match value {
         Some(value) => Some(Statement::ReturnValue(as_type(IntegerType::Int, value))),

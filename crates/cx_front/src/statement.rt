@@ -3,10 +3,9 @@ ghost use Rattle.std.specs.List.{All};
 ghost use Rattle.cx_includes.specs.Assembled.{IsWithin};
 ghost use Rattle.cx_syntax.specs.View.{expr_of, stmt_of, stmts_of};
 ghost use Rattle.cx_core.specs.Tree.{block, empty};
-ghost use Rattle.cx_core.specs.Numbered.{Numbers, stmt_of as core_of, stmts_of as cores_of};
-ghost use Rattle.cx_core.specs.Words.{Semantic};
+ghost use Rattle.cx_core.specs.View.{stmt_of as core_of, stmts_of as cores_of};
 ghost use Rattle.cx_front.specs.Front.{all_assertions_in, assertions_in, both, expr_in, if_of, names_after, names_behind, stmt_in, stmts_in, while_of};
-ghost use Rattle.cx_front.specs.Made.{StandsFor, Told, branch_in};
+ghost use Rattle.cx_front.specs.Made.{StandsFor, branch_in};
 
 use crate::assertion::asserted_in;
 use crate::choice::{if_alone, if_else, while_loop};
@@ -43,7 +42,7 @@ pub fn statement_in(
     tree: &Stmt,
 ) -> Result<Option<Statement>, NoMemory>
     requires { All (IsWithin list.now.files) list.now.placed }
-    ensures stands { IfOk result (StandsFor core_of assertions.new (λ semantic. stmt_in semantic list.now (length assertions.old + 1) base names.old.items (stmt_of tree.now))) }
+    ensures stands { IfOk result (StandsFor core_of (stmt_in list.now (length assertions.old + 1) base names.old.items (stmt_of tree.now))) }
     ensures visible { IfOk result (λ told. OnSome told (names.new.items ≡ names_behind names.old.items (stmt_of tree.now))) }
     ensures added { IfOk result (λ told. OnSome told (assertions.new ≡ assertions.old ++ assertions_in list.now (length assertions.old + 1) (stmt_of tree.now))) }
 {
@@ -95,7 +94,7 @@ fn compound_in(
     statements: &[Stmt],
 ) -> Result<Option<Statement>, NoMemory>
     requires { All (IsWithin list.now.files) list.now.placed }
-    ensures stands { IfOk result (StandsFor core_of assertions.new (λ semantic. option_map block (stmts_in semantic list.now (length assertions.old + 1) (length names.old.items) names.old.items (stmts_of statements.now)))) }
+    ensures stands { IfOk result (StandsFor core_of (option_map block (stmts_in list.now (length assertions.old + 1) (length names.old.items) names.old.items (stmts_of statements.now)))) }
     ensures visible { IfOk result (λ told. OnSome told (names.new.items ≡ names.old.items)) }
     ensures added { IfOk result (λ told. OnSome told (assertions.new ≡ assertions.old ++ all_assertions_in list.now (length assertions.old + 1) (stmts_of statements.now))) }
 {
@@ -117,7 +116,7 @@ fn if_alone_in(
     condition: &Expr,
 ) -> Result<Option<Statement>, NoMemory>
     requires { All (IsWithin list.now.files) list.now.placed }
-    ensures stands { IfOk result (StandsFor core_of assertions.new (λ semantic. if_of (expr_in list.now names.old.items (expr_of condition.now)) (branch_in semantic list.now (length assertions.old + 1) names.old.items (stmt_of body.now)) (Some empty))) }
+    ensures stands { IfOk result (StandsFor core_of (if_of (expr_in list.now names.old.items (expr_of condition.now)) (branch_in list.now (length assertions.old + 1) names.old.items (stmt_of body.now)) (Some empty))) }
     ensures visible { IfOk result (λ told. OnSome told (names.new.items ≡ names.old.items)) }
     ensures added { IfOk result (λ told. OnSome told (assertions.new ≡ assertions.old ++ assertions_in list.now (length assertions.old + 1) (stmt_of body.now))) }
 {
@@ -141,8 +140,7 @@ fn else_in(
     body: Statement,
 ) -> Result<Option<Statement>, NoMemory>
     requires { All (IsWithin list.now.files) list.now.placed }
-    ensures stands { IfOk result (λ told. (n : Numbers) (semantic : Semantic) → Told n semantic assertions.new →
-        option_map (core_of n) told ≡ if_of (expr_in list.now names.old.items (expr_of condition.now)) (Some (core_of n body)) (branch_in semantic list.now (length assertions.old + 1) names.old.items (stmt_of other.now))) }
+    ensures stands { IfOk result (λ told. option_map core_of told ≡ if_of (expr_in list.now names.old.items (expr_of condition.now)) (Some (core_of body)) (branch_in list.now (length assertions.old + 1) names.old.items (stmt_of other.now))) }
     ensures visible { IfOk result (λ told. OnSome told (names.new.items ≡ names.old.items)) }
     ensures added { IfOk result (λ told. OnSome told (assertions.new ≡ assertions.old ++ assertions_in list.now (length assertions.old + 1) (stmt_of other.now))) }
 {
@@ -165,7 +163,7 @@ fn while_in(
     condition: &Expr,
 ) -> Result<Option<Statement>, NoMemory>
     requires { All (IsWithin list.now.files) list.now.placed }
-    ensures stands { IfOk result (StandsFor core_of assertions.new (λ semantic. both while_of (expr_in list.now names.old.items (expr_of condition.now)) (branch_in semantic list.now (length assertions.old + 1) names.old.items (stmt_of body.now)))) }
+    ensures stands { IfOk result (StandsFor core_of (both while_of (expr_in list.now names.old.items (expr_of condition.now)) (branch_in list.now (length assertions.old + 1) names.old.items (stmt_of body.now)))) }
     ensures visible { IfOk result (λ told. OnSome told (names.new.items ≡ names.old.items)) }
     ensures added { IfOk result (λ told. OnSome told (assertions.new ≡ assertions.old ++ assertions_in list.now (length assertions.old + 1) (stmt_of body.now))) }
 {
@@ -188,7 +186,7 @@ fn branch_in(
     tree: &Stmt,
 ) -> Result<Option<Statement>, NoMemory>
     requires { All (IsWithin list.now.files) list.now.placed }
-    ensures stands { IfOk result (StandsFor core_of assertions.new (λ semantic. branch_in semantic list.now (length assertions.old + 1) names.old.items (stmt_of tree.now))) }
+    ensures stands { IfOk result (StandsFor core_of (branch_in list.now (length assertions.old + 1) names.old.items (stmt_of tree.now))) }
     ensures visible { IfOk result (λ told. OnSome told (names.new.items ≡ names.old.items)) }
     ensures added { IfOk result (λ told. OnSome told (assertions.new ≡ assertions.old ++ assertions_in list.now (length assertions.old + 1) (stmt_of tree.now))) }
 {
@@ -211,7 +209,7 @@ pub fn block_in(
     statements: &[Stmt],
 ) -> Result<Option<Vec<Statement>>, NoMemory>
     requires { All (IsWithin list.now.files) list.now.placed }
-    ensures stands { IfOk result (StandsFor (λ n made. cores_of n made.items) assertions.new (λ semantic. stmts_in semantic list.now (length assertions.old + 1) (length names.old.items) names.old.items (stmts_of statements.now))) }
+    ensures stands { IfOk result (StandsFor (λ made. cores_of made.items) (stmts_in list.now (length assertions.old + 1) (length names.old.items) names.old.items (stmts_of statements.now))) }
     ensures visible { IfOk result (λ told. OnSome told (names.new.items ≡ names.old.items)) }
     ensures added { IfOk result (λ told. OnSome told (assertions.new ≡ assertions.old ++ all_assertions_in list.now (length assertions.old + 1) (stmts_of statements.now))) }
 {
@@ -232,7 +230,7 @@ fn statements_in(
     statements: &[Stmt],
 ) -> Result<Option<Vec<Statement>>, NoMemory>
     requires { All (IsWithin list.now.files) list.now.placed }
-    ensures stands { IfOk result (StandsFor (λ n made. cores_of n made.items) assertions.new (λ semantic. stmts_in semantic list.now (length assertions.old + 1) base names.old.items (stmts_of statements.now))) }
+    ensures stands { IfOk result (StandsFor (λ made. cores_of made.items) (stmts_in list.now (length assertions.old + 1) base names.old.items (stmts_of statements.now))) }
     ensures visible { IfOk result (λ told. OnSome told (names.new.items ≡ names_after names.old.items (stmts_of statements.now))) }
     ensures added { IfOk result (λ told. OnSome told (assertions.new ≡ assertions.old ++ all_assertions_in list.now (length assertions.old + 1) (stmts_of statements.now))) }
 {

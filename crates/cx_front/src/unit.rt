@@ -1,17 +1,18 @@
-ghost use Rattle.std.specs.Prelude.{◌≡◌, ◌+◌, [], IfOk, MatchOption, None, min};
+ghost use Rattle.std.specs.Prelude.{◌≡◌, ◌+◌, [], ◌∷◌, IfOk, MatchOption, None, min};
 ghost use Rattle.std.specs.List.{All};
 ghost use Rattle.cx_includes.specs.Assembled.{IsWithin};
 ghost use Rattle.cx_syntax.specs.View.{stmts_of, unit_of};
-ghost use Rattle.cx_core.specs.Words.{Semantic};
 ghost use Rattle.cx_core.specs.declared.unit.CoreUnit.{CoreUnit as Unit};
-ghost use Rattle.cx_front.specs.Front.{DeclaresMain, bytes_of, name_of_file, stmts_in};
+ghost use Rattle.cx_front.specs.Front.{DeclaresMain, bytes_of, main_type, name_of_file, stmts_in};
 ghost use Rattle.cx_front.specs.Made.{IsMain, IsUnitWith, MadeOf, MadeUnit};
 
 use crate::main_function::statements_in;
-use crate::names::number_of;
+use crate::names::{number_of, value_type};
 use crate::statement::block_in;
 use crate::token::has_short_tokens;
-use cx_core::{Assertion, Body, CoreUnit, Function, ResultKind, Statement};
+use cx_core::{
+    Assertion, Body, CoreUnit, Function, FunctionType, IntegerType, ResultKind, Statement,
+};
 use cx_includes::Assembled;
 use cx_outside::{Items, NoMemory, Text};
 use cx_syntax::tree::{Stmt, UnitTree};
@@ -48,7 +49,7 @@ fn unit_of_statements(
 ) -> Result<Option<CoreUnit>, NoMemory>
     requires { All (IsWithin list.now.files) list.now.placed }
     ensures { IfOk result (λ told. MatchOption told
-        ((semantic : Semantic) → stmts_in semantic list.now 1 0 [] (stmts_of statements.now) ≡ None)
+        (stmts_in list.now 1 0 [] (stmts_of statements.now) ≡ None)
         (MadeOf list.now (stmts_of statements.now))) }
 {
     let mut names = Vec::new(alloc);
@@ -80,11 +81,35 @@ fn unit_with(
         classes: Items::new(alloc),
         globals: Items::new(alloc),
         functions,
+        function_types: main_types(alloc)?,
+        definitions: main_alone(alloc)?,
         assertions,
         calls: Items::new(alloc),
         tokens: list.items().len() as u32,
         bytes: bytes_of(list)?,
     })
+}
+
+/// The types of the unit's functions: `main` gives an `int` and takes nothing.
+fn main_types(alloc: Global) -> Result<Items<FunctionType>, NoMemory>
+    ensures { IfOk result (λ types. types ≡ main_type ∷ []) }
+{
+    let mut types = Items::new(alloc);
+    types.push(FunctionType {
+        text: Text::copy_of(alloc, b"int ( )")?,
+        result: value_type(IntegerType::Int),
+        parameters: Items::new(alloc),
+    })?;
+    Ok(types)
+}
+
+/// The functions that the unit defines: its first one.
+fn main_alone(alloc: Global) -> Result<Items<u32>, NoMemory>
+    ensures { IfOk result (λ definitions. definitions ≡ 0 ∷ []) }
+{
+    let mut definitions = Items::new(alloc);
+    definitions.push(0)?;
+    Ok(definitions)
 }
 
 /// The definition of `main` with these statements.
@@ -98,6 +123,7 @@ fn main_function(
 {
     Ok(Function {
         name: Text::copy_of(alloc, b"main")?,
+        of: 0,
         signature: Text::copy_of(alloc, b"int ( )")?,
         specifiers: Text::new(alloc),
         is_inline: false,

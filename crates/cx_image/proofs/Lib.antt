@@ -1,3 +1,2 @@
 pub mod ImageFormat
-mod Sample
 pub mod Standing

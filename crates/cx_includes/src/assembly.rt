@@ -63,6 +63,7 @@ pub fn assemble<F: Files>(
     ensures only_list { (folder : _) (unit : List) → F.content files.old ≡ Some folder → IsListOf folder name.now unit → GetsList unit result }
     ensures only_fault { (folder : _) (fault : Cause) → F.content files.old ≡ Some folder → IsFirstFault folder name.now fault → GetsFault fault result }
     ensures stays { F.content files.new ≡ F.content files.old }
+    ensures puts { F.put_faults files.new ≡ F.put_faults files.old }
     ensures later { F.faults files.old ≤ F.faults files.new }
 {
     take_unit(alloc, name, files)
@@ -79,6 +80,7 @@ fn take_unit<F: Files>(
     ensures short { IfOk result (λ unit. All (λ file. length file.name ≤ max 1024 (length name.now)) unit.files) }
     ensures fault { IfErr result (HasCause (F.content files.old) name.now (Rose (F.faults files.old) (F.faults files.new))) }
     ensures stays { F.content files.new ≡ F.content files.old }
+    ensures puts { F.put_faults files.new ≡ F.put_faults files.old }
     ensures later { F.faults files.old ≤ F.faults files.new }
 {
     let mut taking = Taking::new(alloc);

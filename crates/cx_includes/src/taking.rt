@@ -148,6 +148,7 @@ impl Taking {
         ensures fits { IfOk result (λ text. self.now.bytes + length text ≤ most_bytes) }
         ensures fault { IfErr result (IsHad (F.content files.old) (Rose (F.faults files.old) (F.faults files.new)) name.now self.now.bytes) }
         ensures stays { F.content files.new ≡ F.content files.old }
+        ensures puts { F.put_faults files.new ≡ F.put_faults files.old }
         ensures later { F.faults files.old ≤ F.faults files.new }
     {
         match files.get(self.alloc, name, (MOST_BYTES - self.bytes) as usize) {
@@ -169,6 +170,7 @@ impl Taking {
         ensures sources { self.new.sources ≡ self.old.sources }
         ensures fault { IfErr result (IsHad (F.content files.old) (Rose (F.faults files.old) (F.faults files.new)) (source_at self.old file).file.name self.old.bytes) }
         ensures stays { F.content files.new ≡ F.content files.old }
+        ensures puts { F.put_faults files.new ≡ F.put_faults files.old }
         ensures later { F.faults files.old ≤ F.faults files.new }
     {
         let length = self.sources[file as usize].file.text.bytes().len();
@@ -191,6 +193,7 @@ impl Taking {
         ensures sources { OnErr result (self.new.sources.items ≡ self.old.sources.items) }
         ensures fault { IfErr result (IsHad (F.content files.old) (Rose (F.faults files.old) (F.faults files.new)) name.now self.old.bytes) }
         ensures stays { F.content files.new ≡ F.content files.old }
+        ensures puts { F.put_faults files.new ≡ F.put_faults files.old }
         ensures later { F.faults files.old ≤ F.faults files.new }
     {
         let text = self.fetch(name, files)?;
@@ -233,6 +236,7 @@ impl Taking {
         ensures sound { OnOk result (IsSound self.new) }
         ensures fault { IfErr result (IsDue (F.content files.old) (Rose (F.faults files.old) (F.faults files.new)) self.new (IsPartFault depth (source_at self.old file).file (taken self.old) (Part.Line (Directive.File span) line))) }
         ensures stays { F.content files.new ≡ F.content files.old }
+        ensures puts { F.put_faults files.new ≡ F.put_faults files.old }
         ensures later { F.faults files.old ≤ F.faults files.new }
     {
         let name = self.included_name(file, span)?;
@@ -275,6 +279,7 @@ impl Taking {
         ensures sound { OnOk result (IsSound self.new) }
         ensures fault { IfErr result (IsDue (F.content files.old) (Rose (F.faults files.old) (F.faults files.new)) self.new (IsPartFault depth (source_at self.old file).file (taken self.old) (Part.Line directive line))) }
         ensures stays { F.content files.new ≡ F.content files.old }
+        ensures puts { F.put_faults files.new ≡ F.put_faults files.old }
         ensures later { F.faults files.old ≤ F.faults files.new }
     {
         match directive {
@@ -307,6 +312,7 @@ impl Taking {
         ensures sound { OnOk result (IsSound self.new) }
         ensures fault { IfErr result (IsDue (F.content files.old) (Rose (F.faults files.old) (F.faults files.new)) self.new (IsPartFault depth (source_at self.old file).file (taken self.old) part)) }
         ensures stays { F.content files.new ≡ F.content files.old }
+        ensures puts { F.put_faults files.new ≡ F.put_faults files.old }
         ensures later { F.faults files.old ≤ F.faults files.new }
     {
         match part {
@@ -357,6 +363,7 @@ impl Taking {
         ensures sound { OnOk result (IsSound self.new) }
         ensures fault { IfErr result (IsDue (F.content files.old) (Rose (F.faults files.old) (F.faults files.new)) self.new (IsFileFault depth (source_at self.old file) (taken self.old))) }
         ensures stays { F.content files.new ≡ F.content files.old }
+        ensures puts { F.put_faults files.new ≡ F.put_faults files.old }
         ensures later { F.faults files.old ≤ F.faults files.new }
     {
         let count = self.part_count(file);

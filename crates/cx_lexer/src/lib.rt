@@ -17,6 +17,3 @@ pub use comment::{begins_line_comment, is_spliced_line, line_length};
 pub use fault::LexFault;
 pub use piece::{Piece, piece_at};
 pub use tokens::{Tokens, lex, one_reading, text_of};
-
-#[cfg(test)]
-mod tests;

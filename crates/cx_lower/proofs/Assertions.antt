@@ -13,15 +13,15 @@ use Rattle.cx_code.specs.declared.image.Image.{Image}
 use Rattle.cx_code.specs.Violation.{text_at, name_of}
 use Rattle.cx_core.specs.declared.unit.CoreUnit.{CoreUnit}
 use Rattle.cx_core.specs.declared.unit.Assertion.{Assertion}
-use Rattle.cx_core.specs.Linked.{assertion_of}
+use Rattle.cx_core.specs.View.{assertion_of}
 use Rattle.cx_core.specs.Tree as tree
-use Rattle.cx_core.specs.Tree.{Stmts}
+use Rattle.cx_core.specs.Tree.{Stmts, Check}
 use Rattle.cx_core.specs.Words.{Assert}
 use Rattle.cx_emit.specs.Checks.{IsAssertion}
 use Rattle.cx_typed.specs.Built.{most_weight}
 use Rattle.cx_typed.specs.Typed.{IsListed}
 use Rattle.cx_typed.specs.Unit.{AreNumbered}
-use Rattle.cx_lower.specs.Tables.{comments_of, other_files, entry_of, entries_of, index_of, image_of}
+use Rattle.cx_lower.specs.Tables.{comments_of, other_files, entry_of, entries_of, index_of, image_of, image_with}
 
 -- ---- names
 
@@ -113,8 +113,8 @@ assertion_at image index (a ∷ more) (suc i) e are at =
     let place : index + 1 + i ≡ index + suc i = omega arith in
     subst (λ (k : ℕ). IsAssertion image k (assertion_of e)) place (assertion_at image (index + 1) more i e are.1 at)
 
-are_assertions : (unit : CoreUnit) (b : Stmts) → AreNumbered 1 unit.assertions → AreAssertions (image_of unit b) 0 unit.assertions
-unfolding image_of
+are_assertions : (unit : CoreUnit) (b : Stmts Check) → AreNumbered 1 unit.assertions → AreAssertions (image_of unit b) 0 unit.assertions
+unfolding image_with
 are_assertions unit b numbered =
     let comments = comments_of unit.assertions in
     let files = other_files unit.name unit.assertions in
@@ -123,7 +123,7 @@ are_assertions unit b numbered =
     entries_tell (image_of unit b) unit.name (length unit.assertions + 1) 1 0 unit.assertions files refl refl numbered refl behind refl
 
 -- a listed assertion is the image's at the place that its name gives
-pub listed_is : (unit : CoreUnit) (b : Stmts) → AreNumbered 1 unit.assertions → length unit.assertions ≤ most_weight → (a : tree.Assertion) → IsListed unit.assertions a → IsAssertion (image_of unit b) (index_of unit.assertions a.name) a
+pub listed_is : (unit : CoreUnit) (b : Stmts Check) → AreNumbered 1 unit.assertions → length unit.assertions ≤ most_weight → (a : tree.Assertion) → IsListed unit.assertions a → IsAssertion (image_of unit b) (index_of unit.assertions a.name) a
 listed_is unit b numbered few a listed =
     let i = listed.0 in
     let e = listed.1 in

@@ -13,7 +13,7 @@ use Rattle.cx_emit.specs.Configuration.{operation_at}
 use Rattle.cx_emit.specs.Operations.{unary_operation, binary_operation}
 use Rattle.cx_emit.specs.Stands.{HasSome, StandsNumberLoad, StandsConversion, StandsExpr, StandsOperand}
 use Rattle.cx_emit.specs.Checks.{IsAssertion, StandsViolated, StandsTruth, StandsEvaluation, StandsCheck}
-use Rattle.cx_emit.specs.Statements.{StandsDiscarded}
+use Rattle.cx_emit.specs.Statements.{StandsDropped}
 use Rattle.cx_typed.specs.Typed.{Slots, HasType, Gives, IsCondition, IsTypedDiscarded}
 use Rattle.cx_lower.specs.Code.{unary_instruction, binary_instruction, convert, jump, out, discard, swap, store, conversion_code, load_code, expr_code, operand_code, truth_code, discarded_code, violated_code, verdict_code, evaluation_code, times_code}
 use Rattle.cx_lower.proofs.Operations.{Computes, push_is, get_is, load_is, store_is, swap_is, out_is, discard_is, convert_is, unary_computes, binary_computes, jump_is, jump_nonzero_is, begin_is, verdict_is, violate_is, contract_end_is}
@@ -94,9 +94,9 @@ module _ (image : Image) (function : ℕ) where
         record { here = (back image function from (operand_code a) last h).0 ∙ convert_is types.Bool; next = omega (arith, length-append (operand_code a) last) },
       )
 
-  pub discarded_stands : (slots : Slots) (e : Expr) (from : ℕ) → IsTypedDiscarded slots e → HasCode image function from (discarded_code from e) → StandsDiscarded image function e from (from + length (discarded_code from e))
+  pub discarded_stands : (slots : Slots) (e : Operand) (from : ℕ) → IsTypedDiscarded slots e → HasCode image function from (discarded_code from e) → StandsDropped image function e from (from + length (discarded_code from e))
   unfolding StandsExpr expr_code
-  discarded_stands slots (assign (variable slot) b) from typed h =
+  discarded_stands slots (operand None None (assign (variable slot) b)) from typed h =
       let behind = expr_code (variable slot) ++ swap ∷ store ∷ [] in
       let p = from + length (operand_code b) in
       let rest = back image function from (operand_code b) behind h in (
@@ -108,7 +108,7 @@ module _ (image : Image) (function : ℕ) where
         record { here = rest.1.0 ∙ swap_is; next = refl },
         record { here = rest.1.1.0 ∙ store_is; next = omega (arith, length-append (operand_code b) behind) },
       )
-  discarded_stands slots (putchar a) from typed h =
+  discarded_stands slots (operand None None (putchar a)) from typed h =
       let p = from + length (operand_code a) in
       let behind = jump (p + 1) ∷ out ∷ discard ∷ [] in
       let rest = back image function from (operand_code a) behind h in (
@@ -126,14 +126,14 @@ module _ (image : Image) (function : ℕ) where
   violated_stands Enforce index from h = (from + 1, record { here = h.0 ∙ violate_is Enforce index; next = refl }, h.1.0 ∙ contract_end_is)
   violated_stands QuickEnforce index from h = h.0 ∙ contract_end_is
 
-  evaluation_stands : (slots : Slots) (c : Check) (index from : ℕ) → IsCondition slots c.predicate → HasCode image function from (evaluation_code c.semantic from index c.predicate)
-      → StandsEvaluation image function Definer index c from (from + length (evaluation_code c.semantic from index c.predicate))
-  evaluation_stands slots c index from typed h =
-      let code = truth_code c.predicate in
-      let violated = violated_code c.semantic index in
+  evaluation_stands : (slots : Slots) (semantic : Semantic) (predicate : Operand) (index from : ℕ) → IsCondition slots predicate → HasCode image function from (evaluation_code semantic from index predicate)
+      → StandsEvaluation image function Definer index semantic predicate from (from + length (evaluation_code semantic from index predicate))
+  evaluation_stands slots semantic predicate index from typed h =
+      let code = truth_code predicate in
+      let violated = violated_code semantic index in
       let mid = from + 1 + length code in
-      let behind = verdict_code c.semantic mid index in
-      let to = from + length (evaluation_code c.semantic from index c.predicate) in
+      let behind = verdict_code semantic mid index in
+      let to = from + length (evaluation_code semantic from index predicate) in
       let target : mid + 2 + length violated ≡ to = omega (arith, length-append code behind) in
       let end : mid + 1 + 1 + length violated ≡ to = omega (arith, target) in
       let rest = back image function (from + 1) code behind h.1 in
@@ -142,15 +142,15 @@ module _ (image : Image) (function : ℕ) where
         mid,
         mid + 1,
         mid + 1 + 1,
-        record { here = h.0 ∙ begin_is c.semantic index; next = refl },
-        truth_stands slots c.predicate (from + 1) typed (front image function (from + 1) code behind h.1),
+        record { here = h.0 ∙ begin_is semantic index; next = refl },
+        truth_stands slots predicate (from + 1) typed (front image function (from + 1) code behind h.1),
         record { here = rest.0 ∙ verdict_is index; next = refl },
         record { here = jumps; next = refl },
-        subst (λ (n : ℕ). StandsViolated image function index c.semantic (mid + 1 + 1) n) end (violated_stands c.semantic index (mid + 1 + 1) rest.1.1),
+        subst (λ (n : ℕ). StandsViolated image function index semantic (mid + 1 + 1) n) end (violated_stands semantic index (mid + 1 + 1) rest.1.1),
       )
 
   -- one that is evaluated once or not at all
-  pub check_stands : (slots : Slots) (c : Check) (index from : ℕ) → (c.times ≡ 0) ⊎ (c.times ≡ 1) → IsAssertion image index c.assertion → IsCondition slots c.predicate → HasCode image function from (times_code c.times (evaluation_code c.semantic from index c.predicate))
-      → StandsCheck image function Definer c from (from + length (times_code c.times (evaluation_code c.semantic from index c.predicate)))
-  check_stands slots c index from (inl never) is typed h = inl (never, rw never (omega arith))
-  check_stands slots c index from (inr once) is typed h = inr (once, index, is, rw once (evaluation_stands slots c index from typed (rw once at h)))
+  pub check_stands : (slots : Slots) (c : Check) (predicate : Operand) (index from : ℕ) → (c.times ≡ 0) ⊎ (c.times ≡ 1) → IsAssertion image index c.assertion → IsCondition slots predicate → HasCode image function from (times_code c.times (evaluation_code c.semantic from index predicate))
+      → StandsCheck image function Definer c predicate from (from + length (times_code c.times (evaluation_code c.semantic from index predicate)))
+  check_stands slots c predicate index from (inl never) is typed h = inl (never, rw never (omega arith))
+  check_stands slots c predicate index from (inr once) is typed h = inr (once, index, is, rw once (evaluation_stands slots c.semantic predicate index from typed (rw once at h)))

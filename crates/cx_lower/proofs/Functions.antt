@@ -12,10 +12,10 @@ use Rattle.cx_code.specs.Reached.{depth_after}
 use Rattle.cx_code.specs.Rules.{IsValidFunction, HasDropper}
 use Rattle.cx_core.specs.declared.unit.Assertion.{Assertion}
 use Rattle.cx_core.specs.Tree as tree
-use Rattle.cx_core.specs.Tree.{Stmts}
+use Rattle.cx_core.specs.Tree.{Stmts, Check}
 use Rattle.cx_typed.specs.Typed.{IsListed, AreTyped}
 use Rattle.cx_typed.specs.Weight.{stmts_weight}
-use Rattle.cx_lower.specs.Code.{returns, ends_code, stmts_code, stmts_most, exit_of, exit_code, body_code}
+use Rattle.cx_lower.specs.Code.{returns, ends_code, stmts_code, stmts_most, exit_of, exit_code, body_code, check_code}
 use Rattle.cx_lower.specs.Tables.{main_function, body_function}
 use Rattle.cx_lower.proofs.Operations.{push_is, get_is, end_is, jump_is, call_is, returns_is}
 use Rattle.cx_lower.proofs.Depths.{At, AreAt, at_front, at_back, all_there, AreLocal, local_append}
@@ -62,16 +62,16 @@ ends_local image function depths base (suc n) start room at behind =
 
 -- ---- the function with the body
 
-module _ (image : Image) (assertions : List Assertion) (index : List ℕ → ℕ) (listed : (a : tree.Assertion) → IsListed assertions a → index a.name < length image.assertions) (b : Stmts) (typed : AreTyped assertions [] b) (light : stmts_weight b ≤ 4096) where
+module _ (image : Image) (assertions : List Assertion) (index : List ℕ → ℕ) (listed : (a : tree.Assertion) → IsListed assertions a → index a.name < length image.assertions) (b : Stmts Check) (typed : AreTyped assertions [] b) (light : stmts_weight b ≤ 4096) where
   abbrev function : Function
-  function = body_function index b
+  function = body_function (check_code index) b
 
   body_has : HasPlacesAt image function
   unfolding body_code
   body_has =
-      let exit = exit_of index b in
+      let exit = exit_of (check_code index) b in
       let most = stmts_most 0 b in
-      let code = stmts_code index exit 0 0 0 b in
+      let code = stmts_code (check_code index) exit 0 0 0 b in
       let ends = ends_code 0 most in
       let flow : Flow image function exit most 0 0 code 0 = stmts_flow image function exit most assertions index listed (omega arith) b [] 0 0 0 refl typed light (omega arith) in
       let behind = 0 ∷ 1 ∷ (ends_depths most ++ 1 ∷ []) in

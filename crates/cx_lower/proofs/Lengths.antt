@@ -3,6 +3,10 @@ use Rattle.std.proofs.Common.{◌≡◌, ℕ, zero, suc, ◌+◌, ◌-◌, ◌*�
 use Rattle.cx_code.specs.declared.code.Instruction.{Instruction}
 use Rattle.cx_core.specs.declared.number.IntegerType.{IntegerType}
 use Rattle.cx_core.specs.declared.number.IntegerType.TheVariants as types
+use Rattle.cx_core.specs.declared.unit.Assertion.{Assertion}
+use Rattle.cx_core.specs.Numbers.{times_under}
+use Rattle.cx_lower.specs.Emitted.{where_listed, asserted_code}
+use Rattle.std.specs.Prelude.{slice_get}
 use Rattle.cx_core.specs.Words.{Semantic, Ignore, Observe, Enforce, QuickEnforce}
 use Rattle.cx_core.specs.Operators.{integer_of}
 use Rattle.cx_core.specs.Tree.{ObjectType, scalar, number, Expr, literal, variable, unary, binary, assign, putchar, Operand, operand, value, Check, Stmt, Stmts, expression, variable_declaration, block, if_else, while_loop, contract_assert, return_value, done, next}
@@ -53,10 +57,10 @@ mutual
   short_operand (operand read to e) =
       omega (arith, short_expr e, short_read read, short_conversion to, length-append (expr_code e) (read_code read ++ conversion_code to), length-append (read_code read) (conversion_code to))
 
-short_discarded : (start : ℕ) (e : Expr) → length (discarded_code start e) ≤ 4 * expr_weight e + 3
+short_discarded : (start : ℕ) (e : Operand) → length (discarded_code start e) ≤ 4 * operand_weight e + 3
 unfolding expr_weight
-short_discarded start (assign a b) = omega (arith, short_operand b, short_expr a, length-append (operand_code b) (expr_code a ++ swap ∷ store ∷ []), length-append (expr_code a) (swap ∷ store ∷ []))
-short_discarded start (putchar a) = omega (arith, short_operand a, length-append (operand_code a) (jump (start + length (operand_code a) + 1) ∷ out ∷ discard ∷ []))
+short_discarded start (operand None None (assign a b)) = omega (arith, short_operand b, short_expr a, length-append (operand_code b) (expr_code a ++ swap ∷ store ∷ []), length-append (expr_code a) (swap ∷ store ∷ []))
+short_discarded start (operand None None (putchar a)) = omega (arith, short_operand a, length-append (operand_code a) (jump (start + length (operand_code a) + 1) ∷ out ∷ discard ∷ []))
 short_discarded start e = omega arith
 
 short_truth : (a : Operand) → length (truth_code a) ≤ 4 * operand_weight a + 1
@@ -72,48 +76,62 @@ short_times : (times most : ℕ) (code : List Instruction) → length code ≤ m
 short_times zero most code le = omega arith
 short_times (suc n) most code le = le
 
-short_check : (index : List ℕ → ℕ) (start : ℕ) (c : Check) → length (check_code index start c) ≤ 4 * operand_weight c.predicate + 6
-short_check index start c =
-    let i = index c.assertion.name in
-    short_times c.times (4 * operand_weight c.predicate + 6) (evaluation_code c.semantic start i c.predicate)
-    (omega (arith, length_evaluation c.semantic start i c.predicate, short_truth c.predicate, short_violated c.semantic i))
+-- where the code of assertions is short
+abbrev pub IsShort : {A : Type 0} → (ℕ → A → Operand → List Instruction) → Type 0
+IsShort {A} asserted = (start : ℕ) (a : A) (predicate : Operand) → length (asserted start a predicate) ≤ 4 * operand_weight predicate + 6
 
-more_behind : (count : ℕ) (s : Stmt) → live_behind count s ≡ count + live_behind 0 s
+pub short_check : (index : List ℕ → ℕ) (start : ℕ) (c : Check) (predicate : Operand) → length (check_code index start c predicate) ≤ 4 * operand_weight predicate + 6
+short_check index start c predicate =
+    let i = index c.assertion.name in
+    short_times c.times (4 * operand_weight predicate + 6) (evaluation_code c.semantic start i predicate)
+    (omega (arith, length_evaluation c.semantic start i predicate, short_truth predicate, short_violated c.semantic i))
+
+short_listed : (o : Option Assertion) (most : ℕ) (code : List Instruction) → length code ≤ most → length (where_listed o code) ≤ most
+short_listed None most code le = omega arith
+short_listed (Some a) most code le = le
+
+pub short_asserted : (semantic : Semantic) (assertions : List Assertion) → IsShort (asserted_code semantic assertions)
+short_asserted semantic assertions start i predicate =
+    short_listed (slice_get assertions i) (4 * operand_weight predicate + 6) _
+    (short_times (times_under semantic 0) (4 * operand_weight predicate + 6) (evaluation_code semantic start i predicate)
+    (omega (arith, length_evaluation semantic start i predicate, short_truth predicate, short_violated semantic i)))
+
+more_behind : {A : Type 0} (count : ℕ) (s : Stmt A) → live_behind count s ≡ count + live_behind 0 s
 more_behind count (variable_declaration slot type i) = omega arith
 more_behind count s = omega arith
 
-module _ (index : List ℕ → ℕ) (exit : ℕ) where
+module _ {A : Type 0} (asserted : ℕ → A → Operand → List Instruction) (short : IsShort asserted) (exit : ℕ) where
   mutual
     unfolding stmt_code stmt_weight
 
     -- a variable's end counts where it is declared
-    pub short_stmt : (s : Stmt) (live start : ℕ) → length (stmt_code index exit live start s) + 2 * live_behind 0 s ≤ 8 * stmt_weight s
-    short_stmt (expression e) live start = omega (arith, short_discarded start e)
+    pub short_stmt : (s : Stmt A) (live start : ℕ) → length (stmt_code asserted exit live start s) + 2 * live_behind 0 s ≤ 8 * stmt_weight s
+    short_stmt (expression a) live start = omega (arith, short_discarded start a)
     short_stmt (variable_declaration slot type (value a)) live start = omega (arith, short_operand a, length-append (operand_code a) (store ∷ []))
     short_stmt (variable_declaration slot type i) live start = omega arith
     short_stmt (block b) live start = omega (arith, short_stmts b live 0 start)
     short_stmt (if_else c a b) live start =
         let p = start + length (truth_code c) + 1 in
-        let first = stmt_code index exit live p a in
+        let first = stmt_code asserted exit live p a in
         let q = p + length first + 1 in
-        let second = stmt_code index exit live q b in
+        let second = stmt_code asserted exit live q b in
         omega (arith, short_stmt a live p, short_stmt b live q, short_truth c, length_if (truth_code c) first second q (q + length second))
     short_stmt (while_loop c body) live start =
         let p = start + 1 + length (truth_code c) + 1 in
-        let first = stmt_code index exit live p body in
+        let first = stmt_code asserted exit live p body in
         omega (arith, short_stmt body live p, short_truth c, length_while (truth_code c) first (start + 1) (p + length first + 1) (start + 1))
-    short_stmt (contract_assert c) live start = omega (arith, short_check index start c)
+    short_stmt (contract_assert c predicate) live start = omega (arith, short start c predicate)
     short_stmt (return_value a) live start = omega (arith, short_operand a, length-append (operand_code a) (jump (exit - 2 * live) ∷ []))
     short_stmt s live start = omega arith
 
-    pub short_stmts : (b : Stmts) (base count start : ℕ) → length (stmts_code index exit base count start b) ≤ 8 * stmts_weight b + 2 * count
+    pub short_stmts : (b : Stmts A) (base count start : ℕ) → length (stmts_code asserted exit base count start b) ≤ 8 * stmts_weight b + 2 * count
     short_stmts done base count start = omega (arith, length_ends base count)
     short_stmts (next s rest) base count start =
-        let first = stmt_code index exit (base + count) start s in
+        let first = stmt_code asserted exit (base + count) start s in
         let p = start + length first in
-        omega (arith, short_stmt s (base + count) start, short_stmts rest base (live_behind count s) p, more_behind count s, length-append first (stmts_code index exit base (live_behind count s) p rest))
+        omega (arith, short_stmt s (base + count) start, short_stmts rest base (live_behind count s) p, more_behind count s, length-append first (stmts_code asserted exit base (live_behind count s) p rest))
 
-declared : (s : Stmt) → live_behind 0 s ≤ stmt_weight s
+declared : {A : Type 0} (s : Stmt A) → live_behind 0 s ≤ stmt_weight s
 unfolding stmt_weight
 declared (variable_declaration slot type i) = omega arith
 declared s = omega arith
@@ -121,7 +139,7 @@ declared s = omega arith
 mutual
   unfolding stmt_most stmt_weight
 
-  few_stmt : (s : Stmt) (live : ℕ) → stmt_most live s ≤ live + stmt_weight s
+  few_stmt : {A : Type 0} (s : Stmt A) (live : ℕ) → stmt_most live s ≤ live + stmt_weight s
   few_stmt (variable_declaration slot type i) live = omega arith
   few_stmt (block b) live = omega (arith, few_stmts b live)
   few_stmt (if_else c a b) live = omega (arith, few_stmt a live, few_stmt b live)
@@ -129,16 +147,16 @@ mutual
   few_stmt s live = omega arith
 
   -- a variable has a declaration
-  pub few_stmts : (b : Stmts) (live : ℕ) → stmts_most live b ≤ live + stmts_weight b
+  pub few_stmts : {A : Type 0} (b : Stmts A) (live : ℕ) → stmts_most live b ≤ live + stmts_weight b
   few_stmts done live = omega arith
   few_stmts (next s rest) live = omega (arith, few_stmt s live, few_stmts rest (live_behind live s), more_behind live s, declared s)
 
 -- ---- the body
 
-pub length_body : (index : List ℕ → ℕ) (b : Stmts) → length (body_code index b) ≤ 10 * stmts_weight b + 3
+pub length_body : {A : Type 0} (asserted : ℕ → A → Operand → List Instruction) (short : IsShort asserted) (b : Stmts A) → length (body_code asserted b) ≤ 10 * stmts_weight b + 3
 unfolding body_code
-length_body index b =
-    let exit = exit_of index b in
+length_body asserted short b =
+    let exit = exit_of asserted b in
     let most = stmts_most 0 b in
-    let code = stmts_code index exit 0 0 0 b in
-    omega (arith, short_stmts index exit b 0 0 0, few_stmts b 0, length_ends 0 most, length-append code (exit_code exit most), length-append (ends_code 0 most) (returns ∷ []))
+    let code = stmts_code asserted exit 0 0 0 b in
+    omega (arith, short_stmts asserted short exit b 0 0 0, few_stmts b 0, length_ends 0 most, length-append code (exit_code exit most), length-append (ends_code 0 most) (returns ∷ []))

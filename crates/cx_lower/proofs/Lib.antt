@@ -23,3 +23,4 @@ pub mod Literals
 pub mod Blocks
 pub mod Branches
 pub mod Opened
+pub mod Unread

@@ -13,9 +13,9 @@ use Rattle.cx_core.specs.Words.{Definer, Semantic, Ignore, Observe, Enforce, Qui
 use Rattle.cx_core.specs.Operators.{integer_of}
 use Rattle.cx_core.specs.Tree as tree
 use Rattle.cx_core.specs.Tree.{ObjectType, scalar, Expr, variable, assign, putchar, Operand, operand, value, Check, Stmt, Stmts, empty, expression, variable_declaration, block, if_else, while_loop, contract_assert, return_value, done, next}
-use Rattle.cx_typed.specs.Typed.{Slots, Gives, IsCondition, IsListed, IsTypedDeclaration, seen_behind, IsTyped, AreTyped}
+use Rattle.cx_typed.specs.Typed.{Slots, Gives, IsCondition, IsListed, IsTypedDeclaration, seen_behind, IsTyped, AreTyped, IsTypedWith}
 use Rattle.cx_typed.specs.Weight.{operand_weight, expr_weight, stmt_weight, stmts_weight}
-use Rattle.cx_lower.specs.Code.{discard, swap, get, make, end, store, jump, out, begin, verdict, violate, contract_end, expr_code, operand_code, violated_code, verdict_code, evaluation_code, times_code, ends_code, live_behind, stmt_code, stmts_code, stmt_most, stmts_most}
+use Rattle.cx_lower.specs.Code.{discard, swap, get, make, end, store, jump, out, begin, verdict, violate, contract_end, expr_code, operand_code, violated_code, verdict_code, evaluation_code, times_code, ends_code, live_behind, stmt_code, stmts_code, stmt_most, stmts_most, check_code}
 use Rattle.cx_lower.proofs.Operations.{discard_is, swap_is, make_is, end_is, store_is, out_is, begin_is, verdict_is, violate_is, contract_end_is}
 use Rattle.cx_lower.proofs.Typing.{live_more, live_within, seen_length}
 use Rattle.cx_lower.proofs.Flows.{Flow, nothing, joined, step, stop, pass, leave, skip, branch, loop}
@@ -102,12 +102,12 @@ module _ (image : Image) (function : Function) (exit most : ℕ) where
 
   module _ (assertions : List Assertion) (index : List ℕ → ℕ) (listed : (a : tree.Assertion) → IsListed assertions a → index a.name < length image.assertions) (room : most ≤ function.slots) where
     mutual
-      unfolding IsTyped stmt_code stmt_weight stmt_most expr_weight expr_code
+      unfolding IsTypedWith stmt_code stmt_weight stmt_most expr_weight expr_code
 
-      pub stmt_flow : (s : Stmt) (slots : Slots) (live start : ℕ) → live ≡ length slots → IsTyped assertions slots s → stmt_weight s ≤ 4096 → stmt_most live s ≤ most → Goes start 0 (stmt_code index exit live start s) 0
+      pub stmt_flow : (s : Stmt Check) (slots : Slots) (live start : ℕ) → live ≡ length slots → IsTyped assertions slots s → stmt_weight s ≤ 4096 → stmt_most live s ≤ most → Goes start 0 (stmt_code (check_code index) exit live start s) 0
       stmt_flow empty slots live start same typed le few = nothing image function exit most start 0
-      stmt_flow (expression (assign (variable slot) a)) slots live start same typed le few = assign_flow slots (omega arith) slot a typed.0 start typed.1 typed.2 (omega arith)
-      stmt_flow (expression (putchar a)) slots live start same typed le few = putchar_flow slots (omega arith) a start typed (omega arith)
+      stmt_flow (expression (operand None None (assign (variable slot) a))) slots live start same typed le few = assign_flow slots (omega arith) slot a typed.0 start typed.1 typed.2 (omega arith)
+      stmt_flow (expression (operand None None (putchar a))) slots live start same typed le few = putchar_flow slots (omega arith) a start typed (omega arith)
       stmt_flow (variable_declaration slot (scalar s) (value a)) slots live start same typed le few = declaration_flow slots slot (integer_of s) a start (omega arith) typed (omega arith)
       stmt_flow (block b) slots live start same typed le few = stmts_flow b slots live 0 start (omega arith) typed (omega arith) (let e : live ≡ live + 0 = omega arith in subst (λ (n : ℕ). stmts_most n b ≤ most) e few)
       stmt_flow (if_else c a b) slots live start same typed le few =
@@ -116,14 +116,14 @@ module _ (image : Image) (function : Function) (exit most : ℕ) where
       stmt_flow (while_loop c body) slots live start same typed le few =
           let visible = live_within live body in
           loop image function exit most (truth_flow image function exit most slots (omega arith) c _ typed.0 (omega arith)) (stmt_flow body slots live _ same typed.2 (omega arith) few)
-      stmt_flow (contract_assert c) slots live start same typed le few =
-          times_flow slots (omega arith) c.times start (evaluation_code c.semantic start (index c.assertion.name) c.predicate)
-          (evaluation_flow slots (omega arith) c.semantic start (index c.assertion.name) c.predicate (listed c.assertion typed.1) typed.2 (omega arith))
+      stmt_flow (contract_assert c predicate) slots live start same typed le few =
+          times_flow slots (omega arith) c.times start (evaluation_code c.semantic start (index c.assertion.name) predicate)
+          (evaluation_flow slots (omega arith) c.semantic start (index c.assertion.name) predicate (listed c.assertion typed.0.1) typed.1 (omega arith))
       stmt_flow (return_value a) slots live start same typed le few =
           joined image function exit most (operand_flow image function exit most slots (omega arith) a types.Int start 0 typed (omega arith)) (leave image function exit most live few)
       stmt_flow s slots live start same typed le few = absurd typed
 
-      pub stmts_flow : (b : Stmts) (slots : Slots) (base count start : ℕ) → base + count ≡ length slots → AreTyped assertions slots b → stmts_weight b ≤ 4096 → stmts_most (base + count) b ≤ most → Goes start 0 (stmts_code index exit base count start b) 0
+      pub stmts_flow : (b : Stmts Check) (slots : Slots) (base count start : ℕ) → base + count ≡ length slots → AreTyped assertions slots b → stmts_weight b ≤ 4096 → stmts_most (base + count) b ≤ most → Goes start 0 (stmts_code (check_code index) exit base count start b) 0
       stmts_flow done slots base count start same typed le few = ends_flow base count start (omega arith)
       stmts_flow (next s rest) slots base count start same typed le few =
           let behind = live_more base count s in

@@ -6,12 +6,12 @@ use Rattle.cx_core.specs.declared.number.IntegerType.TheVariants as types
 use Rattle.cx_core.specs.declared.unit.Assertion.{Assertion}
 use Rattle.cx_core.specs.Operators.{integer_of}
 use Rattle.cx_core.specs.Tree as tree
-use Rattle.cx_core.specs.Tree.{scalar, Operand, value, Stmt, Stmts, empty, expression, variable_declaration, block, if_else, while_loop, contract_assert, return_value, done, next}
+use Rattle.cx_core.specs.Tree.{scalar, Operand, value, Stmt, Stmts, empty, expression, variable_declaration, block, if_else, while_loop, contract_assert, return_value, done, next, Check}
 use Rattle.cx_emit.specs.Checks.{IsAssertion, GoesOn}
 use Rattle.cx_emit.specs.Scopes.{Surroundings, inside, in_loop, slot_count, StandsEnds, StandsExit}
 use Rattle.cx_emit.specs.Statements.{behind, StandsStmt, StandsStmts}
-use Rattle.cx_typed.specs.Typed.{Slots, IsListed, IsTyped, AreTyped, seen_behind}
-use Rattle.cx_lower.specs.Code.{jump, jump_zero, store, operand_code, truth_code, ends_code, live_behind, stmt_code, stmts_code, stmt_most, stmts_most}
+use Rattle.cx_typed.specs.Typed.{Slots, IsListed, IsTyped, AreTyped, seen_behind, IsTypedWith}
+use Rattle.cx_lower.specs.Code.{jump, jump_zero, store, operand_code, truth_code, ends_code, live_behind, stmt_code, stmts_code, stmt_most, stmts_most, check_code}
 use Rattle.cx_lower.proofs.Operations.{make_is, get_is, store_is, jump_is, jump_zero_is}
 use Rattle.cx_lower.proofs.Parts.{HasCode, front, back}
 use Rattle.cx_lower.proofs.Typing.{declared, live_more, seen_length}
@@ -20,8 +20,8 @@ use Rattle.cx_lower.proofs.Scopes.{segment, AreSegments, is_unused, ends_stand, 
 use Rattle.cx_lower.proofs.Expressions.{operand_stands, truth_stands, discarded_stands, check_stands}
 
 -- a declaration takes the next slot of its scope
-behind_segment : (assertions : List Assertion) (slots : Slots) (base count : ℕ) (s : Stmt) → base + count ≡ length slots → IsTyped assertions slots s → segment base (live_behind count s) ≡ behind s (segment base count)
-unfolding IsTyped
+behind_segment : (assertions : List Assertion) (slots : Slots) (base count : ℕ) (s : Stmt Check) → base + count ≡ length slots → IsTyped assertions slots s → segment base (live_behind count s) ≡ behind s (segment base count)
+unfolding IsTypedWith
 behind_segment assertions slots base count (variable_declaration slot (scalar s) (value a)) is typed =
     let d = declared slots slot (integer_of s) a typed in
     let e : base + count ≡ slot = omega (arith, is, d.2) in
@@ -46,12 +46,12 @@ module _ (image : Image) (function : ℕ) (assertions : List Assertion) (index :
       subst (λ (k : ℕ). StandsExit image function (length scopes) scopes (exit - 2 * live) k) e (exit_stands image function scopes live (exit - 2 * live) are (leaving live few))
 
   mutual
-    unfolding StandsStmt stmt_code stmt_most IsTyped
+    unfolding StandsStmt stmt_code stmt_most IsTypedWith
 
-    pub stmt_stands : (slots : Slots) (around : Surroundings) (now : List ℕ) (live from : ℕ) (s : Stmt) → live ≡ length slots → AreSegments live (now ∷ around.scopes) → around.exit ≡ exit → IsTyped assertions slots s → stmt_most live s ≤ most
-        → HasCode image function from (stmt_code index exit live from s) → StandsStmt image function around now s from (from + length (stmt_code index exit live from s))
+    pub stmt_stands : (slots : Slots) (around : Surroundings) (now : List ℕ) (live from : ℕ) (s : Stmt Check) → live ≡ length slots → AreSegments live (now ∷ around.scopes) → around.exit ≡ exit → IsTyped assertions slots s → stmt_most live s ≤ most
+        → HasCode image function from (stmt_code (check_code index) exit live from s) → StandsStmt image function around now s from (from + length (stmt_code (check_code index) exit live from s))
     stmt_stands slots around now live from empty is are leaves typed few h = omega arith
-    stmt_stands slots around now live from (expression e) is are leaves typed few h = discarded_stands image function slots e from typed h
+    stmt_stands slots around now live from (expression a) is are leaves typed few h = discarded_stands image function slots a from typed h
     stmt_stands slots around now live from (variable_declaration slot (scalar s) (value a)) is are leaves typed few h =
         let d = declared slots slot (integer_of s) a typed in
         let last = store ∷ [] in
@@ -73,10 +73,10 @@ module _ (image : Image) (function : ℕ) (assertions : List Assertion) (index :
     stmt_stands slots around now live from (if_else c a b) is are leaves typed few h =
         let p = from + length (truth_code c) in
         let then_start = p + 1 in
-        let then_code = stmt_code index exit live then_start a in
+        let then_code = stmt_code (check_code index) exit live then_start a in
         let q = then_start + length then_code in
         let else_start = q + 1 in
-        let else_code = stmt_code index exit live else_start b in
+        let else_code = stmt_code (check_code index) exit live else_start b in
         let end = else_start + length else_code in
         let behind_then = jump end ∷ else_code in
         let rest = jump_zero else_start ∷ (then_code ++ behind_then) in
@@ -99,11 +99,11 @@ module _ (image : Image) (function : ℕ) (assertions : List Assertion) (index :
         let top = from + 1 in
         let p = top + length (truth_code c) in
         let body_start = p + 1 in
-        let body_code = stmt_code index exit live body_start body in
+        let body_code = stmt_code (check_code index) exit live body_start body in
         let q = body_start + length body_code in
         let last = jump top ∷ [] in
         let rest = jump_zero (q + 1) ∷ (body_code ++ last) in
-        let to = from + length (stmt_code index exit live from (while_loop c body)) in
+        let to = from + length (stmt_code (check_code index) exit live from (while_loop c body)) in
         let same : q + 1 ≡ to = omega (arith, length-append (truth_code c) rest, length-append body_code last) in
         let first = back image function top (truth_code c) rest h.1 in
         let second = back image function body_start body_code last first.1 in
@@ -117,7 +117,7 @@ module _ (image : Image) (function : ℕ) (assertions : List Assertion) (index :
           stmt_stands slots (in_loop around to q) now live body_start body is are leaves typed.2 few (front image function body_start body_code last first.1),
           second.0 ∙ jump_is top,
         )
-    stmt_stands slots around now live from (contract_assert c) is are leaves typed few h = check_stands image function slots c (index c.assertion.name) from typed.0 (listed c.assertion typed.1) typed.2 h
+    stmt_stands slots around now live from (contract_assert c predicate) is are leaves typed few h = check_stands image function slots c predicate (index c.assertion.name) from typed.0.0 (listed c.assertion typed.0.1) typed.1 h
     stmt_stands slots around now live from (return_value a) is are leaves typed few h =
         let p = from + length (operand_code a) in
         let q = exit - 2 * live in
@@ -132,16 +132,16 @@ module _ (image : Image) (function : ℕ) (assertions : List Assertion) (index :
     stmt_stands slots around now live from s is are leaves typed few h = absurd typed
 
     -- the innermost scope has declared so many variables so far
-    pub stmts_stands : (slots : Slots) (around : Surroundings) (base count from : ℕ) (b : Stmts) → base + count ≡ length slots → AreSegments base around.scopes → around.exit ≡ exit → AreTyped assertions slots b → stmts_most (base + count) b ≤ most
-        → HasCode image function from (stmts_code index exit base count from b) → StandsStmts image function around (segment base count) b from (from + length (stmts_code index exit base count from b))
+    pub stmts_stands : (slots : Slots) (around : Surroundings) (base count from : ℕ) (b : Stmts Check) → base + count ≡ length slots → AreSegments base around.scopes → around.exit ≡ exit → AreTyped assertions slots b → stmts_most (base + count) b ≤ most
+        → HasCode image function from (stmts_code (check_code index) exit base count from b) → StandsStmts image function around (segment base count) b from (from + length (stmts_code (check_code index) exit base count from b))
     stmts_stands slots around base count from done is are leaves typed few h =
         let to : from + 2 * count ≡ from + length (ends_code base count) = omega (arith, length_ends base count) in
         subst (λ (k : ℕ). StandsEnds image function (segment base count) from k) to (ends_stand image function base count from h)
     stmts_stands slots around base count from (next s rest) is are leaves typed few h =
-        let code = stmt_code index exit (base + count) from s in
+        let code = stmt_code (check_code index) exit (base + count) from s in
         let more_count = live_behind count s in
         let p = from + length code in
-        let code_behind = stmts_code index exit base more_count p rest in
+        let code_behind = stmts_code (check_code index) exit base more_count p rest in
         let more = live_more base count s in
         let below : stmts_most (live_behind (base + count) s) rest ≤ most = omega arith in
         let visible : base + more_count ≡ length (seen_behind slots s) = omega (arith, more, seen_length assertions slots (base + count) s is typed.0) in

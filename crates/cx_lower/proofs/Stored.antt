@@ -16,15 +16,15 @@ use Rattle.cx_code.specs.Spelling as encoded
 use Rattle.cx_code.specs.Storable.{IsShort, IsStorable, IsStorableType, IsStorableGlobal, IsStorableRegion, IsStorableFunction, IsStorableAssertion}
 use Rattle.cx_core.specs.declared.unit.CoreUnit.{CoreUnit}
 use Rattle.cx_core.specs.declared.unit.Assertion.{Assertion}
-use Rattle.cx_core.specs.Tree.{Stmts}
+use Rattle.cx_core.specs.Tree.{Stmts, Check}
 use Rattle.cx_typed.specs.Weight.{stmts_weight}
 use Rattle.cx_typed.specs.Built.{most_weight, most_comments, longest_name}
-use Rattle.cx_lower.specs.Code.{body_code}
-use Rattle.cx_lower.specs.Tables.{comments_of, other_files, entry_of, entries_of, index_of, main_function, body_function, image_of}
-use Rattle.cx_lower.proofs.Lengths.{length_body, few_stmts}
+use Rattle.cx_lower.specs.Code.{body_code, check_code}
+use Rattle.cx_lower.specs.Tables.{comments_of, other_files, entry_of, entries_of, index_of, main_function, body_function, image_of, image_with}
+use Rattle.cx_lower.proofs.Lengths.{length_body, short_check, few_stmts}
 
 -- it has few and short statements and assertions
-pub record IsSmall (unit : CoreUnit) (b : Stmts) : Type 0 where
+pub record IsSmall (unit : CoreUnit) (b : Stmts Check) : Type 0 where
   pub light : stmts_weight b ≤ most_weight
   pub few_assertions : length unit.assertions ≤ most_weight
   pub comments : sum_by (λ (a : Assertion). length a.comment) unit.assertions ≤ most_comments
@@ -131,12 +131,12 @@ main_stored = record {
   each_region = All-nil IsStorableRegion;
 }
 
-body_stored : (index : List ℕ → ℕ) (b : Stmts) → stmts_weight b ≤ most_weight → IsStorableFunction (body_function index b)
+body_stored : (index : List ℕ → ℕ) (b : Stmts Check) → stmts_weight b ≤ most_weight → IsStorableFunction (body_function (check_code index) b)
 body_stored index b light = record {
   name = lit≤ tt;
   parameters = omega arith;
   slots = omega (arith, few_stmts b 0);
-  code = omega (arith, length_body index b);
+  code = omega (arith, length_body (check_code index) (short_check index) b);
   regions = lit< tt;
   each_region = All-nil IsStorableRegion;
 }
@@ -160,7 +160,7 @@ length_spelling t u g f a m h =
     let front = codes "CXIM" ++ 1 ∷ [] in
     omega (arith, length-append (front ++ t ++ u ++ g ++ f ++ a ++ m) h, length-append (front ++ t ++ u ++ g ++ f ++ a) m, length-append (front ++ t ++ u ++ g ++ f) a, length-append (front ++ t ++ u ++ g) f, length-append (front ++ t ++ u) g, length-append (front ++ t) u, length-append front t)
 
-module _ (unit : CoreUnit) (b : Stmts) (small : IsSmall unit b) where
+module _ (unit : CoreUnit) (b : Stmts Check) (small : IsSmall unit b) where
   abbrev comments : List (List ℕ)
   comments = comments_of unit.assertions
 
@@ -181,29 +181,29 @@ module _ (unit : CoreUnit) (b : Stmts) (small : IsSmall unit b) where
       let both_texts : length (flat_map text (comments ++ files)) ≡ length (flat_map text comments) + length (flat_map text files) = ap length (flat_map-append text comments files) ∙ length-append (flat_map text comments) (flat_map text files) in
       omega (arith, length_list text (unit.name ∷ (comments ++ files)), length-append (text unit.name) (flat_map text (comments ++ files)), length_text unit.name, small.name, both_texts, comments_short, files_short)
 
-  functions_fit : length (encoded.list encoded.function (main_function ∷ body_function index b ∷ [])) ≤ 1000000
+  functions_fit : length (encoded.list encoded.function (main_function ∷ body_function (check_code index) b ∷ [])) ≤ 1000000
   functions_fit =
-      let body = body_function index b in
+      let body = body_function (check_code index) b in
       let main_code = length_fields encoded.instruction 9 main_function.code (each_instruction_short main_function.code) in
-      let body_is = length_fields encoded.instruction 9 (body_code index b) (each_instruction_short (body_code index b)) in
-      omega (arith, length_list encoded.function (main_function ∷ body ∷ []), length-append (encoded.function main_function) (flat_map encoded.function (body ∷ [])), length-append (encoded.function body) [], length_function main_function (lit≤ tt) refl, length_function body (lit≤ tt) refl, main_code, body_is, length_body index b, small.light)
+      let body_is = length_fields encoded.instruction 9 (body_code (check_code index) b) (each_instruction_short (body_code (check_code index) b)) in
+      omega (arith, length_list encoded.function (main_function ∷ body ∷ []), length-append (encoded.function main_function) (flat_map encoded.function (body ∷ [])), length-append (encoded.function body) [], length_function main_function (lit≤ tt) refl, length_function body (lit≤ tt) refl, main_code, body_is, length_body (check_code index) (short_check index) b, small.light)
 
   entries_fit : length (encoded.list assertion entries) ≤ 200000
   entries_fit =
       omega (arith, length_list assertion entries, length_fields assertion 25 entries (each_entry_short unit.name (length unit.assertions + 1) 1 unit.assertions), length_entries unit.name (length unit.assertions + 1) 1 unit.assertions, small.few_assertions)
 
   bytes_fit : IsShort (image_spelling (image_of unit b))
-  unfolding image_spelling image_of
+  unfolding image_spelling image_with
   bytes_fit =
       let texts = encoded.list text (unit.name ∷ (comments ++ files)) in
       let types = encoded.list encoded.type_entry [] in
       let globals = encoded.list encoded.global [] in
-      let functions = encoded.list encoded.function (main_function ∷ body_function index b ∷ []) in
+      let functions = encoded.list encoded.function (main_function ∷ body_function (check_code index) b ∷ []) in
       let whole = length_spelling texts types globals functions (encoded.list assertion entries) (number 0) (number 0) in
       omega (arith, whole, texts_fit, functions_fit, entries_fit, length_list encoded.type_entry [], length_list encoded.global [], length_number 0)
 
   pub is_storable : IsStorable (image_of unit b)
-  unfolding image_of
+  unfolding image_with
   is_storable =
       let image = image_of unit b in
       let other = length unit.assertions + 1 in
@@ -220,8 +220,8 @@ module _ (unit : CoreUnit) (b : Stmts) (small : IsSmall unit b) where
         globals = lit< tt;
         each_global = All-nil IsStorableGlobal;
         functions = lit≤ tt;
-        each_function = All-from_recursion IsStorableFunction (main_function ∷ body_function index b ∷ []) (main_stored, (body_stored index b small.light, tt));
-        instructions = omega (arith, length_body index b, small.light);
+        each_function = All-from_recursion IsStorableFunction (main_function ∷ body_function (check_code index) b ∷ []) (main_stored, (body_stored index b small.light, tt));
+        instructions = omega (arith, length_body (check_code index) (short_check index) b, small.light);
         assertions = omega (arith, length_entries unit.name other 1 unit.assertions, small.few_assertions);
         each_assertion = All-from_recursion (IsStorableAssertion image) entries (each_entry_stored image unit.name other 1 unit.assertions (lit≤ tt) (omega arith) (omega (arith, count, all)) (lit< tt));
         main = lit< tt;

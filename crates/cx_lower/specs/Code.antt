@@ -1,6 +1,5 @@
 -- The instructions that stand for statements of the typed program, by cases on the tree: what is evaluated follows [expr], [stmt] and [conv] of the C++ draft and [basic.contract.eval] of P2900R14; the instructions and their numbers are this project's own.
 use Rattle.std.specs.Prelude.{ℕ, ◌+◌, ◌-◌, ◌*◌, zero, suc, max, pos, List, [], ◌∷◌, ◌++◌, length, Option, Some, None}
-use Rattle.cx_types.specs.declared.value_type.Scalar.{Scalar}
 use Rattle.cx_code.specs.declared.code.Instruction.{Instruction}
 use Rattle.cx_core.specs.declared.number.IntegerType.{IntegerType}
 use Rattle.cx_core.specs.declared.number.IntegerType.TheVariants as types
@@ -10,7 +9,7 @@ use Rattle.cx_core.specs.declared.number.UnaryOperator.{UnaryOperator}
 use Rattle.cx_core.specs.declared.number.UnaryOperator.TheVariants as unary_operators
 use Rattle.cx_core.specs.Words.{Semantic, Ignore, Observe, Enforce, QuickEnforce}
 use Rattle.cx_core.specs.Operators.{integer_of}
-use Rattle.cx_core.specs.Tree.{ObjectType, scalar, number, Expr, literal, variable, unary, binary, assign, putchar, Operand, operand, value, Check, Stmt, Stmts, empty, expression, variable_declaration, block, if_else, while_loop, contract_assert, return_value, done, next}
+use Rattle.cx_core.specs.Tree.{ObjectType, scalar, number, Expr, literal, variable, unary, binary, assign, putchar, Operand, operand, value, Check, Stmt, Stmts, expression, variable_declaration, block, if_else, while_loop, contract_assert, return_value, done, next}
 
 -- ---- the machine's instructions that are used, by name
 
@@ -160,9 +159,9 @@ abbrev pub truth_code : Operand → List Instruction
 truth_code a = operand_code a ++ convert types.Bool ∷ []
 
 -- an expression from this place on, whose value is discarded; `putchar` has a jump to the next place as the instruction of a unit of its own
-abbrev pub discarded_code : (start : ℕ) → Expr → List Instruction
-discarded_code start (assign a b) = operand_code b ++ (expr_code a ++ swap ∷ store ∷ [])
-discarded_code start (putchar a) = operand_code a ++ jump (start + length (operand_code a) + 1) ∷ out ∷ discard ∷ []
+abbrev pub discarded_code : (start : ℕ) → Operand → List Instruction
+discarded_code start (operand None None (assign a b)) = operand_code b ++ (expr_code a ++ swap ∷ store ∷ [])
+discarded_code start (operand None None (putchar a)) = operand_code a ++ jump (start + length (operand_code a) + 1) ∷ out ∷ discard ∷ []
 discarded_code start other = []
 
 -- ---- assertions
@@ -188,8 +187,8 @@ times_code zero code = []
 times_code (suc n) code = code
 
 -- nothing where it isn't evaluated, as under `ignore`; `index` tells the place of an assertion in the image's table by its name
-abbrev pub check_code : (index : List ℕ → ℕ) → (start : ℕ) → Check → List Instruction
-check_code index start c = times_code c.times (evaluation_code c.semantic start (index c.assertion.name) c.predicate)
+abbrev pub check_code : (index : List ℕ → ℕ) → (start : ℕ) → Check → (predicate : Operand) → List Instruction
+check_code index start c predicate = times_code c.times (evaluation_code c.semantic start (index c.assertion.name) predicate)
 
 -- ---- statements
 
@@ -199,17 +198,17 @@ ends_code base zero = []
 ends_code base (suc n) = get (base + n) ∷ end ∷ ends_code base n
 
 -- how many variables are visible behind a statement
-abbrev pub live_behind : (live : ℕ) → Stmt → ℕ
+abbrev pub live_behind : {A : Type 0} → (live : ℕ) → Stmt A → ℕ
 live_behind live (variable_declaration slot type i) = suc live
 live_behind live other = live
 
--- `index` is as above; `exit` is the place where a value is returned, before which the objects in all slots end, so that a
+-- `asserted` is the code of an assertion from a place on; `exit` is the place where a value is returned, before which the objects in all slots end, so that a
 -- `return` enters there where those that are live do
-module _ (index : List ℕ → ℕ) (exit : ℕ) where
+module _ {A : Type 0} (asserted : (start : ℕ) → A → (predicate : Operand) → List Instruction) (exit : ℕ) where
   unfoldable mutual
     -- from this place on, where so many variables are visible
-    pub stmt_code : (live start : ℕ) → Stmt → List Instruction
-    stmt_code live start (expression e) = discarded_code start e
+    pub stmt_code : (live start : ℕ) → Stmt A → List Instruction
+    stmt_code live start (expression a) = discarded_code start a
     stmt_code live start (variable_declaration slot type (value a)) = make slot ∷ get slot ∷ (operand_code a ++ store ∷ [])
     stmt_code live start (block b) = stmts_code live 0 start b
     stmt_code live start (if_else c a b) =
@@ -223,12 +222,12 @@ module _ (index : List ℕ → ℕ) (exit : ℕ) where
         let body_start = start + 1 + length (truth_code c) + 1 in
         let body_code = stmt_code live body_start body in
         jump (start + 1) ∷ (truth_code c ++ jump_zero (body_start + length body_code + 1) ∷ (body_code ++ jump (start + 1) ∷ []))
-    stmt_code live start (contract_assert c) = check_code index start c
+    stmt_code live start (contract_assert c predicate) = asserted start c predicate
     stmt_code live start (return_value a) = operand_code a ++ jump (exit - 2 * live) ∷ []
     stmt_code live start other = []
 
     -- the statements of a block that began with `base` variables and has declared `count` so far
-    pub stmts_code : (base count start : ℕ) → Stmts → List Instruction
+    pub stmts_code : (base count start : ℕ) → Stmts A → List Instruction
     stmts_code base count start done = ends_code base count
     stmts_code base count start (next s rest) =
         let code = stmt_code (base + count) start s in
@@ -238,14 +237,14 @@ module _ (index : List ℕ → ℕ) (exit : ℕ) where
 
 unfoldable mutual
   -- the most variables that are visible at one place in a statement, where so many are before it
-  pub stmt_most : (live : ℕ) → Stmt → ℕ
+  pub stmt_most : {A : Type 0} → (live : ℕ) → Stmt A → ℕ
   stmt_most live (variable_declaration slot type i) = suc live
   stmt_most live (block b) = stmts_most live b
   stmt_most live (if_else c a b) = max (stmt_most live a) (stmt_most live b)
   stmt_most live (while_loop c body) = stmt_most live body
   stmt_most live other = live
 
-  pub stmts_most : (live : ℕ) → Stmts → ℕ
+  pub stmts_most : {A : Type 0} → (live : ℕ) → Stmts A → ℕ
   stmts_most live done = live
   stmts_most live (next s rest) = max (stmt_most live s) (stmts_most (live_behind live s) rest)
 
@@ -254,8 +253,8 @@ abbrev pub exit_code : (exit most : ℕ) → List Instruction
 exit_code exit most = push 0 ∷ jump exit ∷ (ends_code 0 most ++ returns ∷ [])
 
 -- the code's length doesn't depend on where it exits to
-abbrev pub exit_of : (index : List ℕ → ℕ) → Stmts → ℕ
-exit_of index b = length (stmts_code index 0 0 0 0 b) + 2 + 2 * stmts_most 0 b
+abbrev pub exit_of : {A : Type 0} → (asserted : ℕ → A → Operand → List Instruction) → Stmts A → ℕ
+exit_of asserted b = length (stmts_code asserted 0 0 0 0 b) + 2 + 2 * stmts_most 0 b
 
-unfoldable pub body_code : (index : List ℕ → ℕ) → Stmts → List Instruction
-body_code index b = stmts_code index (exit_of index b) 0 0 0 b ++ exit_code (exit_of index b) (stmts_most 0 b)
+unfoldable pub body_code : {A : Type 0} → (asserted : ℕ → A → Operand → List Instruction) → Stmts A → List Instruction
+body_code asserted b = stmts_code asserted (exit_of asserted b) 0 0 0 b ++ exit_code (exit_of asserted b) (stmts_most 0 b)

@@ -2,14 +2,15 @@
 use Rattle.std.specs.Prelude.{ℕ, ◌+◌, List, [], ◌∷◌, ◌++◌, map, length, true, false, codes, if◌then◌else◌}
 use Rattle.std.specs.Str.{bytes_eq}
 use Rattle.cx_code.specs.declared.image.Image.{Image}
+use Rattle.cx_code.specs.declared.code.Instruction.{Instruction}
 use Rattle.cx_code.specs.declared.image.Function.{Function}
 use Rattle.cx_code.specs.declared.image.Assertion as entry
 use Rattle.cx_code.specs.declared.image.AssertionKind.TheVariants as kinds
 use Rattle.cx_core.specs.declared.unit.CoreUnit.{CoreUnit}
 use Rattle.cx_core.specs.declared.unit.Assertion.{Assertion}
-use Rattle.cx_core.specs.Tree.{Stmts}
+use Rattle.cx_core.specs.Tree.{Operand, Check, Stmts}
 use Rattle.cx_core.specs.Linked.{number_in}
-use Rattle.cx_lower.specs.Code.{call, returns, stmts_most, body_code}
+use Rattle.cx_lower.specs.Code.{call, returns, check_code, stmts_most, body_code}
 
 -- ---- texts
 
@@ -48,16 +49,21 @@ index_of assertions name = number_in (map (λ (a : Assertion). a.name) assertion
 abbrev pub main_function : Function
 main_function = record { name = codes "main"; counted = true; parameters = 0; slots = 0; result = true; code = call 1 ∷ returns ∷ []; regions = [] }
 
-abbrev pub body_function : (index : List ℕ → ℕ) → Stmts → Function
-body_function index b = record { name = codes "main!"; counted = false; parameters = 0; slots = stmts_most 0 b; result = true; code = body_code index b; regions = [] }
+abbrev pub body_function : {A : Type 0} → (asserted : ℕ → A → Operand → List Instruction) → Stmts A → Function
+body_function asserted b = record { name = codes "main!"; counted = false; parameters = 0; slots = stmts_most 0 b; result = true; code = body_code asserted b; regions = [] }
 
-unfoldable pub image_of : CoreUnit → Stmts → Image
-image_of unit b = record {
+-- with this code of assertions
+unfoldable pub image_with : {A : Type 0} → (asserted : ℕ → A → Operand → List Instruction) → CoreUnit → Stmts A → Image
+image_with asserted unit b = record {
   texts = texts_of unit.name unit.assertions;
   types = [];
   globals = [];
-  functions = main_function ∷ body_function (index_of unit.assertions) b ∷ [];
+  functions = main_function ∷ body_function asserted b ∷ [];
   assertions = entries_of unit.name (length unit.assertions + 1) 1 unit.assertions;
   main = 0;
   handler = 0;
 }
+
+-- the image that stands for statements of the unit's program
+abbrev pub image_of : CoreUnit → Stmts Check → Image
+image_of unit b = image_with (check_code (index_of unit.assertions)) unit b

@@ -1,11 +1,12 @@
 //! The function with the code of the body of `main`.
 ghost use Rattle.std.specs.Prelude.{◌≡◌, ◌≤◌, ◌++◌, ◌∷◌, ◌^◌, [], IfOk, OnOk, length};
-ghost use Rattle.cx_typed.specs.Unit.{body_of, AreNumbered};
+ghost use Rattle.cx_core.specs.View.{stmts_of};
 ghost use Rattle.cx_typed.specs.Built.{most_weight};
 ghost use Rattle.cx_typed.specs.Weight.{stmts_weight};
 ghost use Rattle.cx_lower.specs.Code.{call, returns, stmts_most, exit_code, exit_of, body_code};
+ghost use Rattle.cx_lower.specs.Emitted.{asserted_code};
 ghost use Rattle.cx_lower.specs.Literals.{StmtsFit};
-ghost use Rattle.cx_lower.specs.Tables.{index_of, main_function, body_function};
+ghost use Rattle.cx_lower.specs.Tables.{main_function, body_function};
 
 use crate::code::Code;
 use crate::emitter::{Emitter, put_ends};
@@ -47,10 +48,9 @@ pub fn body_function(
     unit: &CoreUnit,
     b: &[Statement],
 ) -> Result<Function, NoMemory>
-    requires fits { StmtsFit (body_of semantic unit.now b.now) }
-    requires numbered { AreNumbered 1 unit.now.assertions }
-    requires light { stmts_weight (body_of semantic unit.now b.now) ≤ most_weight }
-    ensures { IfOk result (λ function. function ≡ body_function (index_of unit.now.assertions) (body_of semantic unit.now b.now)) }
+    requires fits { StmtsFit (stmts_of b.now) }
+    requires light { stmts_weight (stmts_of b.now) ≤ most_weight }
+    ensures { IfOk result (λ function. function ≡ body_function (asserted_code semantic unit.now.assertions) (stmts_of b.now)) }
 {
     let most = most_in_body(semantic, unit, b);
     let exit = exit_of(alloc, semantic, unit, b, most)?;
@@ -67,8 +67,8 @@ pub fn body_function(
 
 /// The most variables of the body that are visible at one place.
 fn most_in_body(semantic: Semantic, unit: &CoreUnit, b: &[Statement]) -> u32
-    requires { stmts_weight (body_of semantic unit.now b.now) ≤ most_weight }
-    ensures most { result ≡ stmts_most 0 (body_of semantic unit.now b.now) }
+    requires { stmts_weight (stmts_of b.now) ≤ most_weight }
+    ensures most { result ≡ stmts_most 0 (stmts_of b.now) }
     ensures few { result ≤ most_weight }
 {
     let emitter = Emitter {
@@ -87,12 +87,11 @@ fn exit_of(
     b: &[Statement],
     most: u32,
 ) -> Result<u32, NoMemory>
-    requires fits { StmtsFit (body_of semantic unit.now b.now) }
-    requires numbered { AreNumbered 1 unit.now.assertions }
-    requires light { stmts_weight (body_of semantic unit.now b.now) ≤ most_weight }
-    requires most { most ≡ stmts_most 0 (body_of semantic unit.now b.now) }
+    requires fits { StmtsFit (stmts_of b.now) }
+    requires light { stmts_weight (stmts_of b.now) ≤ most_weight }
+    requires most { most ≡ stmts_most 0 (stmts_of b.now) }
     requires few { most ≤ most_weight }
-    ensures { IfOk result (λ exit. exit ≡ exit_of (index_of unit.now.assertions) (body_of semantic unit.now b.now)) }
+    ensures { IfOk result (λ exit. exit ≡ exit_of (asserted_code semantic unit.now.assertions) (stmts_of b.now)) }
 {
     let emitter = Emitter {
         unit,
@@ -112,13 +111,12 @@ fn body_code(
     most: u32,
     exit: u32,
 ) -> Result<Items<Instruction>, NoMemory>
-    requires fits { StmtsFit (body_of semantic unit.now b.now) }
-    requires numbered { AreNumbered 1 unit.now.assertions }
-    requires light { stmts_weight (body_of semantic unit.now b.now) ≤ most_weight }
-    requires most { most ≡ stmts_most 0 (body_of semantic unit.now b.now) }
+    requires fits { StmtsFit (stmts_of b.now) }
+    requires light { stmts_weight (stmts_of b.now) ≤ most_weight }
+    requires most { most ≡ stmts_most 0 (stmts_of b.now) }
     requires few { most ≤ most_weight }
-    requires exit { exit ≡ exit_of (index_of unit.now.assertions) (body_of semantic unit.now b.now) }
-    ensures { IfOk result (λ code. code ≡ body_code (index_of unit.now.assertions) (body_of semantic unit.now b.now)) }
+    requires exit { exit ≡ exit_of (asserted_code semantic unit.now.assertions) (stmts_of b.now) }
+    ensures { IfOk result (λ code. code ≡ body_code (asserted_code semantic unit.now.assertions) (stmts_of b.now)) }
 {
     let emitter = Emitter {
         unit,

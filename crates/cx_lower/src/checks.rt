@@ -1,10 +1,9 @@
 //! The code of contract assertions.
 ghost use Rattle.std.specs.Prelude.{◌≡◌, ◌+◌, ◌^◌, ◌≤◌, ◌++◌, ℕ, length, OnOk};
-ghost use Rattle.cx_core.specs.Numbered.{operand_of};
-ghost use Rattle.cx_typed.specs.Unit.{AreNumbered};
+ghost use Rattle.cx_core.specs.View.{operand_of};
 ghost use Rattle.cx_lower.specs.Code.{violated_code, verdict_code};
 ghost use Rattle.cx_lower.specs.Literals.{OperandFits};
-ghost use Rattle.cx_lower.specs.Emitted.{numbers_of, code_of_evaluation, code_of_evaluations, code_of_check};
+ghost use Rattle.cx_lower.specs.Emitted.{code_of_evaluation, code_of_evaluations, code_of_check};
 
 use crate::code::Code;
 use crate::emitter::Emitter;
@@ -22,8 +21,7 @@ impl<'u> Emitter<'u> {
         index: u32,
         predicate: &Operand,
     ) -> Result<(), NoMemory>
-        requires numbered { AreNumbered 1 self.now.unit.now.assertions }
-        requires fits { OperandFits (operand_of (numbers_of self.now) predicate.now) }
+        requires fits { OperandFits (operand_of predicate.now) }
         requires room { length code.old + length (code_of_check self.now (length code.old) index predicate.now) ≤ 2 ^ 24 }
         ensures { OnOk result (code.new ≡ code.old ++ code_of_check self.now (length code.old) index predicate.now) }
     {
@@ -40,7 +38,7 @@ impl<'u> Emitter<'u> {
         index: u32,
         predicate: &Operand,
     ) -> Result<(), NoMemory>
-        requires fits { OperandFits (operand_of (numbers_of self.now) predicate.now) }
+        requires fits { OperandFits (operand_of predicate.now) }
         requires room { length code.old + length (code_of_evaluations self.now (length code.old) index predicate.now) ≤ 2 ^ 24 }
         ensures { OnOk result (code.new ≡ code.old ++ code_of_evaluations self.now (length code.old) index predicate.now) }
     {
@@ -58,7 +56,7 @@ impl<'u> Emitter<'u> {
         index: u32,
         predicate: &Operand,
     ) -> Result<(), NoMemory>
-        requires fits { OperandFits (operand_of (numbers_of self.now) predicate.now) }
+        requires fits { OperandFits (operand_of predicate.now) }
         requires room { length code.old + length (code_of_evaluation self.now (length code.old) index predicate.now) ≤ 2 ^ 24 }
         ensures { OnOk result (code.new ≡ code.old ++ code_of_evaluation self.now (length code.old) index predicate.now) }
     {

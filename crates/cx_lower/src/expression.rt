@@ -1,7 +1,7 @@
 //! The code of expressions and operands.
 ghost use Rattle.std.specs.Prelude.{◌≡◌, ◌<◌, ◌^◌, Some, [], ◌∷◌, ◌++◌, OnOk};
 ghost use Rattle.cx_core.specs.Tree.{literal};
-ghost use Rattle.cx_core.specs.Numbered.{Numbers, base_type, constant, expr_of, operand_of, object_type_or_none};
+ghost use Rattle.cx_core.specs.View.{base_type, constant, expr_of, operand_of, object_type_or_none};
 ghost use Rattle.cx_lower.specs.Literals.{ExprFits, OperandFits};
 ghost use Rattle.cx_lower.specs.Code.{push, conversion_code, load_code, read_code, expr_code, operand_code, truth_code};
 
@@ -16,7 +16,7 @@ use cx_types::{Base, ValueType};
 #[cycle(expressions)]
 #[tactic(auto, unfolding(crate::specs::Code::expr_code, crate::specs::Code::operand_code, crate::specs::Literals::ExprFits, crate::specs::Literals::OperandFits))]
 pub fn put_expression(code: &mut Code, e: &Expression) -> Result<(), NoMemory>
-    ensures { (numbers : Numbers) → ExprFits (expr_of numbers e.now) → OnOk result (code.new ≡ code.old ++ expr_code (expr_of numbers e.now)) }
+    ensures { ExprFits (expr_of e.now) → OnOk result (code.new ≡ code.old ++ expr_code (expr_of e.now)) }
 {
     match e {
         Expression::Literal(c) => put_literal(code, *c),
@@ -38,7 +38,7 @@ pub fn put_expression(code: &mut Code, e: &Expression) -> Result<(), NoMemory>
 #[cycle(expressions)]
 #[tactic(auto, unfolding(crate::specs::Code::expr_code, crate::specs::Code::operand_code, crate::specs::Literals::ExprFits, crate::specs::Literals::OperandFits))]
 pub fn put_operand(code: &mut Code, a: &Operand) -> Result<(), NoMemory>
-    ensures { (numbers : Numbers) → OperandFits (operand_of numbers a.now) → OnOk result (code.new ≡ code.old ++ operand_code (operand_of numbers a.now)) }
+    ensures { OperandFits (operand_of a.now) → OnOk result (code.new ≡ code.old ++ operand_code (operand_of a.now)) }
 {
     put_expression(code, &a.of)?;
     put_read(code, a.read)?;
@@ -47,7 +47,7 @@ pub fn put_operand(code: &mut Code, a: &Operand) -> Result<(), NoMemory>
 
 /// The truth of an operand, which is zero for false.
 pub fn put_truth(code: &mut Code, a: &Operand) -> Result<(), NoMemory>
-    ensures { (numbers : Numbers) → OperandFits (operand_of numbers a.now) → OnOk result (code.new ≡ code.old ++ truth_code (operand_of numbers a.now)) }
+    ensures { OperandFits (operand_of a.now) → OnOk result (code.new ≡ code.old ++ truth_code (operand_of a.now)) }
 {
     put_operand(code, a)?;
     code.push(convert(IntegerType::Bool))
@@ -76,7 +76,7 @@ fn put_number(code: &mut Code, n: u128) -> Result<(), NoMemory>
 
 /// An operand that is read as an object of a type.
 fn put_read(code: &mut Code, read: Option<ValueType>) -> Result<(), NoMemory>
-    ensures { (numbers : Numbers) → OnOk result (code.new ≡ code.old ++ read_code (object_type_or_none numbers read)) }
+    ensures { OnOk result (code.new ≡ code.old ++ read_code (object_type_or_none read)) }
 {
     match read {
         Some(of) if of.pointers == 0 => put_base_read(code, of.base),
@@ -85,7 +85,7 @@ fn put_read(code: &mut Code, read: Option<ValueType>) -> Result<(), NoMemory>
 }
 
 fn put_base_read(code: &mut Code, base: Base) -> Result<(), NoMemory>
-    ensures { (numbers : Numbers) → OnOk result (code.new ≡ code.old ++ read_code (Some (base_type numbers base))) }
+    ensures { OnOk result (code.new ≡ code.old ++ read_code (Some (base_type base))) }
 {
     match base {
         Base::Scalar(scalar) => put_load(code, integer_of(scalar)),

@@ -2,10 +2,12 @@
 ghost use Rattle.std.specs.Prelude.{◌≡◌, ◌≤◌, List, length, IfOk};
 ghost use Rattle.cx_core.specs.declared.statement.Statement.{Statement};
 ghost use Rattle.cx_typed.specs.Built.{most_weight, IsBuilt};
-ghost use Rattle.cx_typed.specs.Unit.{body_of, IsMainAlone, AreNumbered};
+ghost use Rattle.cx_core.specs.View.{stmts_of};
+ghost use Rattle.cx_typed.specs.Unit.{body_of, IsMainAlone};
 ghost use Rattle.cx_typed.specs.Weight.{stmts_weight};
+ghost use Rattle.cx_lower.specs.Emitted.{asserted_code};
 ghost use Rattle.cx_lower.specs.Literals.{StmtsFit};
-ghost use Rattle.cx_lower.specs.Tables.{image_of};
+ghost use Rattle.cx_lower.specs.Tables.{image_of, image_with};
 
 use crate::body::{body_function, main_function};
 use crate::tables::{assertions_of, texts_of};
@@ -24,18 +26,17 @@ pub fn make_image(alloc: Global, semantic: Semantic, unit: &CoreUnit) -> Result<
 }
 
 /// The image of a unit whose body of `main` has these statements.
-#[tactic(auto, unfolding(crate::specs::Tables::image_of))]
+#[tactic(auto, unfolding(crate::specs::Tables::image_with))]
 fn image_of(
     alloc: Global,
     semantic: Semantic,
     unit: &CoreUnit,
     b: &[Statement],
 ) -> Result<Image, NoMemory>
-    requires fits { StmtsFit (body_of semantic unit.now b.now) }
-    requires numbered { AreNumbered 1 unit.now.assertions }
+    requires fits { StmtsFit (stmts_of b.now) }
     requires few { length unit.now.assertions ≤ most_weight }
-    requires light { stmts_weight (body_of semantic unit.now b.now) ≤ most_weight }
-    ensures { IfOk result (λ image. image ≡ image_of unit.now (body_of semantic unit.now b.now)) }
+    requires light { stmts_weight (stmts_of b.now) ≤ most_weight }
+    ensures { IfOk result (λ image. image ≡ image_with (asserted_code semantic unit.now.assertions) unit.now (stmts_of b.now)) }
 {
     let mut functions = Items::new(alloc);
     functions.push(main_function(alloc)?)?;

@@ -1,5 +1,6 @@
 ghost use Rattle.std.specs.Prelude.{◌≡◌, List, IfOk};
 ghost use Rattle.cx_code.specs.Rules.{IsValid};
+ghost use Rattle.cx_sound.specs.Unread.{ReadsNothing};
 ghost use Rattle.cx_core.specs.declared.statement.Statement.{Statement};
 ghost use Rattle.cx_core.specs.Runs.{IsFaithful};
 ghost use Rattle.cx_simulation.specs.ImageMachine.{image_run};
@@ -20,7 +21,7 @@ use std::alloc::Global;
 /// - `semantic`: the evaluation semantic of each assertion. Under `Ignore` nothing is evaluated.
 /// - `unit`: the unit, of `main` alone with typed statements, within the limits.
 ///
-/// Result: the image, which is valid, has no violation handler of its own, and stands for the body of `main`.
+/// Result: the image, which is valid, has no violation handler of its own, reads nothing, and stands for the body of `main`.
 ///
 /// Error: `NoMemory`, where memory is lacking.
 ///
@@ -29,6 +30,7 @@ pub fn lower(alloc: Global, semantic: Semantic, unit: &CoreUnit) -> Result<Image
     requires built { (statements : List Statement) × IsBuilt unit.now statements }
     ensures valid { IfOk result IsValid }
     ensures no_handler { IfOk result (λ image. image.handler ≡ 0) }
+    ensures reads { IfOk result ReadsNothing }
     ensures stands { IfOk result (λ image. (statements : List Statement) × IsMainAlone unit.now statements × StandsMain image (body_of semantic unit.now statements)) }
     ensures faithful { IfOk result (λ image. IsFaithful (image_run image) (program_of semantic unit.now)) }
 {

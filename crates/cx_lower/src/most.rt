@@ -1,8 +1,7 @@
 //! The most variables that are visible at one place.
 ghost use Rattle.std.specs.Prelude.{◌≡◌, ◌^◌, ◌≤◌};
-ghost use Rattle.cx_core.specs.Numbered.{stmt_of, stmts_of};
+ghost use Rattle.cx_core.specs.View.{stmt_of, stmts_of};
 ghost use Rattle.cx_lower.specs.Code.{stmt_most, stmts_most};
-ghost use Rattle.cx_lower.specs.Emitted.{numbers_of};
 
 use crate::emitter::Emitter;
 use crate::statement::live_behind;
@@ -13,8 +12,8 @@ impl<'u> Emitter<'u> {
     /// The most variables that are visible at one place in a statement, where so many are before it.
     #[cycle(most)]
     pub fn most_in_statement(&self, live: u32, s: &Statement) -> u32
-        requires { stmt_most live (stmt_of (numbers_of self.now) s.now) ≤ 2 ^ 24 }
-        ensures { result ≡ stmt_most live (stmt_of (numbers_of self.now) s.now) }
+        requires { stmt_most live (stmt_of s.now) ≤ 2 ^ 24 }
+        ensures { result ≡ stmt_most live (stmt_of s.now) }
     {
         match s {
             Statement::Variable(..) => live + 1,
@@ -31,8 +30,8 @@ impl<'u> Emitter<'u> {
     /// The same of the statements of a block.
     #[cycle(most)]
     pub fn most_in_block(&self, live: u32, b: &[Statement]) -> u32
-        requires { stmts_most live (stmts_of (numbers_of self.now) b.now) ≤ 2 ^ 24 }
-        ensures { result ≡ stmts_most live (stmts_of (numbers_of self.now) b.now) }
+        requires { stmts_most live (stmts_of b.now) ≤ 2 ^ 24 }
+        ensures { result ≡ stmts_most live (stmts_of b.now) }
     {
         let mut most = 0;
         let mut visible = live;

@@ -1,10 +1,9 @@
 //! The code of statements.
 ghost use Rattle.std.specs.Prelude.{◌≡◌, ◌+◌, ◌*◌, ◌^◌, ◌<◌, ◌≤◌, [], ◌∷◌, ◌++◌, length, slice_set, IfOk, OnOk};
-ghost use Rattle.cx_core.specs.Numbered.{Numbers, stmt_of, stmts_of};
-ghost use Rattle.cx_typed.specs.Unit.{AreNumbered};
+ghost use Rattle.cx_core.specs.View.{stmt_of, stmts_of};
 ghost use Rattle.cx_lower.specs.Code.{jump, jump_zero, live_behind};
 ghost use Rattle.cx_lower.specs.Literals.{StmtFits, StmtsFit};
-ghost use Rattle.cx_lower.specs.Emitted.{numbers_of, code_of_statement, code_of_statements};
+ghost use Rattle.cx_lower.specs.Emitted.{code_of_statement, code_of_statements};
 
 use crate::code::Code;
 use crate::emitter::{Emitter, put_ends};
@@ -17,13 +16,12 @@ impl<'u> Emitter<'u> {
     #[cycle(statements)]
     #[tactic(auto, unfolding(crate::specs::Code::stmt_code, crate::specs::Code::stmts_code, crate::specs::Literals::StmtFits, crate::specs::Literals::StmtsFit))]
     pub fn put_statement(&self, code: &mut Code, live: u32, s: &Statement) -> Result<(), NoMemory>
-        requires numbered { AreNumbered 1 self.now.unit.now.assertions }
-        requires fits { StmtFits (stmt_of (numbers_of self.now) s.now) }
+        requires fits { StmtFits (stmt_of s.now) }
         requires room { length code.old + length (code_of_statement self.now live (length code.old) s.now) + 2 * live ≤ 2 ^ 24 }
         ensures { OnOk result (code.new ≡ code.old ++ code_of_statement self.now live (length code.old) s.now) }
     {
         match s {
-            Statement::Expression(e) => self.put_discarded(code, e),
+            Statement::Expression(a) => self.put_discarded(code, a),
             Statement::Variable(slot, _, Initializer::Value(a)) => {
                 self.put_variable(code, *slot, a)
             }
@@ -57,8 +55,7 @@ impl<'u> Emitter<'u> {
         base: u32,
         b: &[Statement],
     ) -> Result<(), NoMemory>
-        requires numbered { AreNumbered 1 self.now.unit.now.assertions }
-        requires fits { StmtsFit (stmts_of (numbers_of self.now) b.now) }
+        requires fits { StmtsFit (stmts_of b.now) }
         requires room { length code.old + length (code_of_statements self.now base 0 (length code.old) b.now) + 2 * base ≤ 2 ^ 24 }
         ensures { OnOk result (code.new ≡ code.old ++ code_of_statements self.now base 0 (length code.old) b.now) }
     {
@@ -74,7 +71,7 @@ impl<'u> Emitter<'u> {
 /// How many variables are visible behind a statement.
 pub fn live_behind(live: u32, s: &Statement) -> u32
     requires { live ≤ 2 ^ 24 }
-    ensures { (n : Numbers) → result ≡ live_behind live (stmt_of n s.now) }
+    ensures { result ≡ live_behind live (stmt_of s.now) }
 {
     match s {
         Statement::Variable(..) => live + 1,

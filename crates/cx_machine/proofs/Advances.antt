@@ -1,6 +1,7 @@
 -- What a step leaves, by what came of it.
-use Rattle.std.proofs.Common.{◌≡◌, ◌≢◌, ℕ, ◌≤◌, Bool, true, false, List, [], ◌∷◌, ◌++◌, Option, Some, None, ◌==◌, if◌then◌else◌, refl, sym, ap, subst, ◌∙◌, append_assoc, arith}
+use Rattle.std.proofs.Common.{◌≡◌, ◌≢◌, ℕ, ◌≤◌, Bool, true, false, List, [], ◌∷◌, ◌++◌, length, Option, Some, None, ◌+◌, take, ◌==◌, if◌then◌else◌, refl, sym, ap, subst, ◌∙◌, append_assoc, arith}
 use Rattle.std.proofs.lemmas.List.{append-nil}
+use Rattle.std.proofs.Math.Seq.{take-length, take-append-add}
 use Rattle.std.specs.Io.KnownBytes.{Appends}
 use Rattle.cx_code.specs.declared.image.Image.{Image}
 use Rattle.cx_code.specs.declared.run.Cause.{Cause}
@@ -15,9 +16,10 @@ use Rattle.cx_code.specs.Output.{written_out, written_out_at}
 use Rattle.cx_code.specs.Violation.{written, written_at}
 use Rattle.cx_frame.specs.Made.{IsOwn}
 use Rattle.cx_outside.specs.Fault.{Rose}
+use Rattle.cx_outside.specs.Stream.{TakesFront}
 use Rattle.cx_outside.specs.Told.{Appends-nothing, Appends-then}
 use Rattle.cx_machine.specs.declared.report.Report.{Report}
-use Rattle.cx_machine.specs.Advance.{IsAdvance, IsRunCause, HasRun, HasCome}
+use Rattle.cx_machine.specs.Advance.{IsAdvance, IsRunCause, TakesSome, IsCut, without_event, with_event, HasRun, HasCome}
 use Rattle.cx_machine.specs.Outcome.{lines_of}
 
 written-append : (image : Image) (a b : List Event) → written image (a ++ b) ≡ written image a ++ written image b
@@ -78,6 +80,28 @@ pub lines_on : (image : Image) (a b c : Option (List ℕ)) (journal more next : 
 lines_on image a b c journal more next p q e =
     let both = Appends-then a b c (lines_of image journal) (lines_of image more) p q in
     subst (λ (t : List ℕ). Appends a c t) (sym (ap (lines_of image) e ∙ lines-append image journal more)) both
+
+-- what was taken whole is a front of itself
+pub front_whole : (a b : Option (List ℕ)) (x : List ℕ) → Appends a b x → TakesFront a b x
+front_whole a b x p = (length x, subst (λ (t : List ℕ). Appends a b t) (sym (take-length x)) p)
+
+front_then : (a b c : Option (List ℕ)) (x y : List ℕ) → Appends a b x → TakesFront b c y → TakesFront a c (x ++ y)
+front_then a b c x y p q = (length x + q.0, subst (λ (t : List ℕ). Appends a c t) (sym (take-append-add x y q.0)) (Appends-then a b c x (take q.0 y) p q.1))
+
+pub some_front : (cause : Cause) (a b : Option (List ℕ)) (x : List ℕ) → TakesSome cause a b x → TakesFront a b x
+some_front causes.NoMemory a b x none = (0, none)
+some_front causes.Read a b x some = some
+some_front causes.Out a b x some = some
+some_front causes.Err a b x some = some
+
+-- the lines of a run that was stopped in a step
+pub lines_cut : (image : Image) (cause : Cause) (a b c : Option (List ℕ)) (journal more last : List Event) → Appends a b (lines_of image journal) → IsCut image cause more journal last b c → TakesFront a c (lines_of image last)
+lines_cut image cause a b c journal more last p (without_event same none) =
+    let all = subst (λ (t : List ℕ). Appends a c t) (append-nil (lines_of image journal)) (Appends-then a b c (lines_of image journal) [] p none) in
+    front_whole a c (lines_of image last) (subst (λ (j : List Event). Appends a c (lines_of image j)) (sym same) all)
+lines_cut image cause a b c journal more last p (with_event e some) =
+    let both = front_then a b c (lines_of image journal) (lines_of image more) p (some_front cause b c (lines_of image more) some) in
+    subst (λ (t : List ℕ). TakesFront a c t) (sym (ap (lines_of image) e ∙ lines-append image journal more)) both
 
 pub out_on : (before now : List ℕ) (journal more next : List Event) → before ≡ written_out journal → now ≡ before ++ written_out more → next ≡ journal ++ more → now ≡ written_out next
 out_on before now journal more next is more_is e = more_is ∙ ap (λ (t : List ℕ). t ++ written_out more) is ∙ sym (written_out-append journal more) ∙ sym (ap written_out e)

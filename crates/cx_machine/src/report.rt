@@ -1,10 +1,10 @@
-ghost use Rattle.std.specs.Prelude.{◌≡◌, ◌≤◌, [], ◌∷◌, ◌++◌, OnOk, OnErr, IfErr};
+ghost use Rattle.std.specs.Prelude.{◌≡◌, ◌≤◌, [], ◌∷◌, ◌++◌, OnOk, IfErr};
 ghost use Rattle.std.specs.Io.KnownBytes.{Appends};
 ghost use Rattle.cx_outside.specs.Fault.{Rose};
 ghost use Rattle.cx_code.specs.Output.{written_out_at};
 ghost use Rattle.cx_code.specs.Violation.{written_at};
-ghost use Rattle.cx_machine.specs.Advance.{IsRunCause};
-ghost use Rattle.cx_machine.specs.Outcome.{BeginsWith, lines_of};
+ghost use Rattle.cx_machine.specs.Advance.{IsRunCause, IsCut, TakesSome};
+ghost use Rattle.cx_machine.specs.Outcome.{lines_of};
 
 use cx_code::{Cause, Event, Image, Journal};
 use cx_outside::{NoMemory, Sink, SinkFault, Text};
@@ -31,7 +31,8 @@ impl Report {
         }
     }
 
-    /// Notes an event, and writes the default handler's line where the event is its.
+    /// Notes an event, and writes the default handler's line where the event is its. An event that couldn't be noted has no
+    /// line, and want of memory cuts none.
     #[inline(always)]
     pub fn note<E: Sink>(
         &mut self,
@@ -43,7 +44,7 @@ impl Report {
         ensures journal { OnOk result (self.new.journal ≡ self.old.journal ++ event ∷ []) }
         ensures out { OnOk result (self.new.out ≡ self.old.out ++ written_out_at event) }
         ensures lines { OnOk result (Appends (E.taken err.old) (E.taken err.new) (lines_of image.now (event ∷ []))) }
-        ensures front { OnErr result (BeginsWith (self.old.journal ++ event ∷ []) self.new.journal) }
+        ensures cut { IfErr result (λ cause. IsCut image.now cause (event ∷ []) self.old.journal self.new.journal (E.taken err.old) (E.taken err.new)) }
         ensures cause { IfErr result (λ cause. IsRunCause cause (Rose (E.faults err.old) (E.faults err.new))) }
         ensures later { E.faults err.old ≤ E.faults err.new }
     {
@@ -74,6 +75,7 @@ fn write_default<E: Sink>(
     err: &mut E,
 ) -> Result<(), Cause>
     ensures ok { OnOk result (Appends (E.taken err.old) (E.taken err.new) (lines_of image.now (event ∷ []))) }
+    ensures err { IfErr result (λ cause. TakesSome cause (E.taken err.old) (E.taken err.new) (lines_of image.now (event ∷ []))) }
     ensures cause { IfErr result (λ cause. IsRunCause cause (Rose (E.faults err.old) (E.faults err.new))) }
     ensures later { E.faults err.old ≤ E.faults err.new }
 {
@@ -88,6 +90,7 @@ fn write_default<E: Sink>(
 #[inline(never)]
 fn write_line<E: Sink>(alloc: Global, image: &Image, event: Event, err: &mut E) -> Result<(), Cause>
     ensures ok { OnOk result (Appends (E.taken err.old) (E.taken err.new) (written_at image.now event)) }
+    ensures err { IfErr result (λ cause. TakesSome cause (E.taken err.old) (E.taken err.new) (written_at image.now event)) }
     ensures cause { IfErr result (λ cause. IsRunCause cause (Rose (E.faults err.old) (E.faults err.new))) }
     ensures later { E.faults err.old ≤ E.faults err.new }
 {

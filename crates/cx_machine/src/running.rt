@@ -1,4 +1,4 @@
-ghost use Rattle.std.specs.Prelude.{◌≡◌, ◌≢◌, ◌+◌, ◌≤◌, ◌++◌, [], None, IfOk, IfErr, OnErr};
+ghost use Rattle.std.specs.Prelude.{◌≡◌, ◌≢◌, ◌+◌, ◌≤◌, [], None, IfOk, IfErr};
 ghost use Rattle.cx_outside.specs.Fault.{Rose};
 ghost use Rattle.cx_code.specs.Run.{step};
 ghost use Rattle.cx_code.specs.Rules.{IsValid};
@@ -8,8 +8,7 @@ ghost use Rattle.cx_machine.specs.States.{state_of, IsCounted, IsTold, Keeps};
 ghost use Rattle.cx_machine.specs.Due.{HasRoom};
 ghost use Rattle.cx_machine.specs.Loading.{IsLoaded};
 ghost use Rattle.cx_machine.specs.Start.{IsStarted};
-ghost use Rattle.cx_machine.specs.Advance.{IsAdvance, IsRunCause, HasCome, appended_by};
-ghost use Rattle.cx_machine.specs.Outcome.{BeginsWith};
+ghost use Rattle.cx_machine.specs.Advance.{IsAdvance, IsCut, IsRunCause, HasCome, appended_by};
 
 use crate::loading::Program;
 use crate::report::Report;
@@ -45,7 +44,7 @@ fn advance<M: Memory, E: Sink>(
     requires counted { IsCounted image.now machine.old }
     requires told { IsTold machine.old }
     ensures ok { IfOk result (λ ending. IsAdvance image.now (state_of machine.old (M.store memory.old)) (state_of machine.new (M.store memory.new)) ending report.old report.new (E.taken err.old) (E.taken err.new)) }
-    ensures front { OnErr result (BeginsWith (report.old.journal ++ appended_by (step image.now (state_of machine.old (M.store memory.old)))) report.new.journal) }
+    ensures cut { IfErr result (λ cause. IsCut image.now cause (appended_by (step image.now (state_of machine.old (M.store memory.old)))) report.old.journal report.new.journal (E.taken err.old) (E.taken err.new)) }
     ensures cause { IfErr result (λ cause. IsRunCause cause (Rose (E.faults err.old) (E.faults err.new))) }
     ensures keeps { IfOk result (λ ending. ending ≡ None → Keeps image.now machine.old machine.new) }
     ensures grows { IfOk result (λ ending. ending ≡ None → Grows (M.store memory.old) (M.store memory.new)) }

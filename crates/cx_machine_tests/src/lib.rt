@@ -20,4 +20,6 @@ mod images;
 #[cfg(test)]
 mod programs;
 #[cfg(test)]
+mod stopped;
+#[cfg(test)]
 mod tests;

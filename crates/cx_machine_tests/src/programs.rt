@@ -99,6 +99,20 @@ pub fn violation(alloc: Global) -> Result<Valid, NoMemory> {
     alone!(alloc, code![46 0 10, 1 0 5, 39 0 0], &[])
 }
 
+/// Two violations that the default handler reports.
+pub fn violated_twice(alloc: Global) -> Result<Valid, NoMemory> {
+    alone!(alloc, code![46 0 10, 46 0 11, 1 0 5, 39 0 0], &[])
+}
+
+/// Writes a byte, meets a violation that the default handler reports, and writes another byte.
+pub fn speaking(alloc: Global) -> Result<Valid, NoMemory> {
+    alone!(
+        alloc,
+        code![1 0 65, 41 0 0, 5 0 0, 46 0 10, 1 0 66, 41 0 0, 39 0 0],
+        &[]
+    )
+}
+
 /// A violation whose handler writes all its fields.
 pub fn handled(alloc: Global) -> Result<Valid, NoMemory> {
     beside!(

@@ -9,6 +9,3 @@ mod words;
 pub use laws::{class_names, marks_stay, numbers};
 pub use scan::marks_of;
 pub use spelled::Spelled;
-
-#[cfg(test)]
-mod tests;

@@ -5,3 +5,4 @@ pub mod Opened
 pub mod Lookups
 pub mod OpenedStatement
 pub mod Stepping
+pub mod SameTypes

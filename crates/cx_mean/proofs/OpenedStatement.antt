@@ -5,10 +5,11 @@ use Rattle.cx_core.specs.declared.statement.Statement.TheVariants as rust
 use Rattle.cx_core.specs.declared.statement.Statement.TheFolds.{fold-roll-Statement}
 use Rattle.cx_core.specs.declared.statement.Statement.TheOpen.{Statement-F}
 use Rattle.cx_core.specs.Tree as tree
-use Rattle.cx_core.specs.Tree.{Stmt, Handlers}
-use Rattle.cx_core.specs.Numbered.{Numbers, expr_of, stmt_of, statement_layer, handler_layer}
+use Rattle.cx_core.specs.Tree.{Check, Stmt, Handlers}
+use Rattle.cx_core.specs.View.{expr_of}
+use Rattle.cx_mean.specs.Seen.{Table, stmt_of, statement_layer, handler_layer}
 
-pub opened-reference : (n : Numbers) → (slot : ℕ) → (e : Expression) → stmt_of n (rust.Reference slot e) ≡ tree.reference_declaration slot (expr_of n e)
+pub opened-reference : (n : Table) → (slot : ℕ) → (e : Expression) → stmt_of n (rust.Reference slot e) ≡ tree.reference_declaration slot (expr_of e)
 opened-reference n slot e =
     ap (stmt_of n) (sym (rust.rolls-Reference slot e))
-    ∙ fold-roll-Statement Stmt (Handlers → Handlers) (statement_layer n) (handler_layer n) (Statement-F.Reference slot e)
+    ∙ fold-roll-Statement (Stmt Check) (Handlers Check → Handlers Check) (statement_layer n) (handler_layer n) (Statement-F.Reference slot e)

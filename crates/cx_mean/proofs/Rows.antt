@@ -4,8 +4,7 @@ use Rattle.std.specs.Option.{option_map}
 use Rattle.std.specs.Prelude.{slice_get, slice_set}
 use Rattle.cx_code.specs.declared.run.Party.{Party}
 use Rattle.cx_core.specs.Event.{Evaluation, same_evaluation}
-use Rattle.cx_core.specs.Numbered.{Numbers}
-use Rattle.cx_core.specs.Tree.{Check}
+use Rattle.cx_core.specs.Tree.{Check, Specifier}
 use Rattle.cx_plain.specs.Step.{behind, Continued, continued, due_in_all, evaluation_of, first_due, has_stood, once_less}
 use Rattle.cx_plain.specs.Task as task
 use Rattle.cx_mean.specs.declared.task.Due.{Due}
@@ -28,7 +27,7 @@ later (Some i) d due = refl
 found : (party : Party) (e : Evaluation) (due : List task.Due) → continued party e due ≡ at (place_due party e due) due
 found party e [] = refl
 found party e (d ∷ due) =
-    elim (same_evaluation e (evaluation_of party d.check)) as (λ t.
+    elim (same_evaluation e (evaluation_of party d.check.of)) as (λ t.
     (if t then once_less d.left d due else (if has_stood d then behind d (continued party e due) else None))
     ≡ at (if t then Some 0 else (if has_stood d then option_map (λ i. suc i) (place_due party e due) else None)) (d ∷ due)) [
       | true ↦ refl
@@ -40,34 +39,33 @@ found party e (d ∷ due) =
 
 -- ---- the same of a list of this program
 
-module _ (n : Numbers) where
-  none_left : (due : List Due) (i : ℕ) (d : Due) → slice_get due i ≡ Some d → d.left ≡ 0 → at_place i (map (due_of n) due) ≡ None
-  none_left [] i d h z = refl
-  none_left (x ∷ due) zero d h z = let e : x ≡ d = cc in rw (e, z) refl
-  none_left (x ∷ due) (suc i) d h z = rw (none_left due i d h z) refl
+none_left : (due : List Due) (i : ℕ) (d : Due) → slice_get due i ≡ Some d → d.left ≡ 0 → at_place i (map due_of due) ≡ None
+none_left [] i d h z = refl
+none_left (x ∷ due) zero d h z = let e : x ≡ d = cc in rw (e, z) refl
+none_left (x ∷ due) (suc i) d h z = rw (none_left due i d h z) refl
 
-  one_less : (due : List Due) (i : ℕ) (d : Due) (left : ℕ) → slice_get due i ≡ Some d → d.left ≡ suc left →
-      at_place i (map (due_of n) due) ≡ Some (check_seen n d.check, map (due_of n) (slice_set due i (record d { left = left })))
-  one_less [] i d left h z = absurd (cc)
-  one_less (x ∷ due) zero d left h z = let e : x ≡ d = cc in rw (e, z) refl
-  one_less (x ∷ due) (suc i) d left h z = rw (one_less due i d left h z) refl
+one_less : (due : List Due) (i : ℕ) (d : Due) (left : ℕ) → slice_get due i ≡ Some d → d.left ≡ suc left →
+    at_place i (map due_of due) ≡ Some (check_seen d.check, map due_of (slice_set due i (record d { left = left })))
+one_less [] i d left h z = absurd (cc)
+one_less (x ∷ due) zero d left h z = let e : x ≡ d = cc in rw (e, z) refl
+one_less (x ∷ due) (suc i) d left h z = rw (one_less due i d left h z) refl
 
-  pub not_placed : (party : Party) (e : Evaluation) (due : List Due) → None ≡ place_due party e (map (due_of n) due) → None ≡ continued party e (map (due_of n) due)
-  not_placed party e due p = sym (found party e (map (due_of n) due) ∙ ap (λ r. at r (map (due_of n) due)) (sym p))
+pub not_placed : (party : Party) (e : Evaluation) (due : List Due) → None ≡ place_due party e (map due_of due) → None ≡ continued party e (map due_of due)
+not_placed party e due p = sym (found party e (map due_of due) ∙ ap (λ r. at r (map due_of due)) (sym p))
 
-  pub not_owed : (party : Party) (e : Evaluation) (due : List Due) (i : ℕ) (d : Due) → Some i ≡ place_due party e (map (due_of n) due) → slice_get due i ≡ Some d → d.left ≡ 0 →
-      None ≡ continued party e (map (due_of n) due)
-  not_owed party e due i d p h z = sym (found party e (map (due_of n) due) ∙ ap (λ r. at r (map (due_of n) due)) (sym p) ∙ none_left due i d h z)
+pub not_owed : (party : Party) (e : Evaluation) (due : List Due) (i : ℕ) (d : Due) → Some i ≡ place_due party e (map due_of due) → slice_get due i ≡ Some d → d.left ≡ 0 →
+    None ≡ continued party e (map due_of due)
+not_owed party e due i d p h z = sym (found party e (map due_of due) ∙ ap (λ r. at r (map due_of due)) (sym p) ∙ none_left due i d h z)
 
-  pub owed_less : (party : Party) (e : Evaluation) (due : List Due) (i : ℕ) (d : Due) (left : ℕ) → Some i ≡ place_due party e (map (due_of n) due) → slice_get due i ≡ Some d → d.left ≡ suc left →
-      Some (check_seen n d.check, map (due_of n) (slice_set due i (record d { left = left }))) ≡ continued party e (map (due_of n) due)
-  owed_less party e due i d left p h z = sym (found party e (map (due_of n) due) ∙ ap (λ r. at r (map (due_of n) due)) (sym p) ∙ one_less due i d left h z)
+pub owed_less : (party : Party) (e : Evaluation) (due : List Due) (i : ℕ) (d : Due) (left : ℕ) → Some i ≡ place_due party e (map due_of due) → slice_get due i ≡ Some d → d.left ≡ suc left →
+    Some (check_seen d.check, map due_of (slice_set due i (record d { left = left }))) ≡ continued party e (map due_of due)
+owed_less party e due i d left p h z = sym (found party e (map due_of due) ∙ ap (λ r. at r (map due_of due)) (sym p) ∙ one_less due i d left h z)
 
 -- ---- how much a row owes
 
-first_checks : (checks : List Check) → checks_due (map first_due checks) ≡ checks
+first_checks : (checks : List (Specifier Check)) → checks_due (map first_due checks) ≡ checks
 first_checks [] = refl
 first_checks (c ∷ checks) = ap (λ l. c ∷ l) (first_checks checks)
 
-pub row_counted : (checks : List Check) {due : List task.Due} {count : ℕ} → due ≡ map first_due checks → count ≡ due_in_all (checks_due due) → due_in_all checks ≡ count
+pub row_counted : (checks : List (Specifier Check)) {due : List task.Due} {count : ℕ} → due ≡ map first_due checks → count ≡ due_in_all (checks_due due) → due_in_all checks ≡ count
 row_counted checks d h = ap due_in_all (sym (first_checks checks)) ∙ ap (λ l. due_in_all (checks_due l)) (sym d) ∙ sym h

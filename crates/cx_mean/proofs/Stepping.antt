@@ -5,7 +5,7 @@ use Rattle.cx_core.specs.Program.{Program}
 use Rattle.cx_core.specs.Event.{Event, Answer}
 use Rattle.cx_core.specs.Outcome.{State, on, over}
 use Rattle.cx_core.specs.Meaning.{Meaning, meaning_of}
-use Rattle.cx_core.specs.Numbered.{Numbers}
+use Rattle.cx_mean.specs.Seen.{Table}
 use Rattle.cx_plain.specs.Task as task
 use Rattle.cx_plain.specs.Run.{Config, passing, step_config}
 use Rattle.cx_plain.proofs.Runs.{config_means, step_means, step_is_over}
@@ -14,7 +14,7 @@ use Rattle.cx_mean.specs.Frames.{frames_of, waiting_of}
 use Rattle.cx_mean.specs.Runs.{left_outcome}
 
 -- the last of the frames is the innermost
-pub frames-popped : (n : Numbers) (frames rest : List Waiting) (f : Waiting) → frames ≡ rest ++ f ∷ [] → frames_of n frames ≡ waiting_of n f ∷ frames_of n rest
+pub frames-popped : (n : Table) (frames rest : List Waiting) (f : Waiting) → frames ≡ rest ++ f ∷ [] → frames_of n frames ≡ waiting_of n f ∷ frames_of n rest
 frames-popped n frames rest f h =
     ap (frames_of n) h ∙ ap reverse (map-append (waiting_of n) rest (f ∷ [])) ∙ reverse-append (map (waiting_of n) rest) (waiting_of n f ∷ [])
 

@@ -1,9 +1,9 @@
 -- Parts of the steps of checks and calls that have functions of their own here; this project's own.
 use Rattle.std.specs.Prelude.{ℕ, suc, true, if◌then◌else◌, List, [], ◌∷◌, Option, Some, None, slice_get}
 use Rattle.std.specs.Option.{option_map}
-use Rattle.cx_core.specs.Event.{Evaluation, same_evaluation, destroyed}
+use Rattle.cx_core.specs.Event.{Evaluation, same_evaluation, destroyed, handler}
 use Rattle.cx_core.specs.Tree as tree
-use Rattle.cx_core.specs.Outcome.{Frame, Does, ◌>>=◌, ◌>>◌, gives, some, append, current_frame, place_of, set_frame, spend}
+use Rattle.cx_core.specs.Outcome.{Frame, Does, Nothing, ◌>>=◌, ◌>>◌, gives, some, append, current_frame, place_of, set_frame, spend}
 use Rattle.cx_core.specs.Store.{Address, Value, null}
 use Rattle.cx_core.specs.Program.{Program, FieldInit, Function}
 use Rattle.cx_core.specs.Tree.{Stmts}
@@ -14,33 +14,37 @@ use Rattle.cx_core.specs.Meaning.{numbered, unit_of}
 use Rattle.cx_core.specs.Block.{begin_told}
 use Rattle.cx_plain.specs.Task as task
 use Rattle.cx_plain.specs.Step.{doing, evaluation_of, has_stood, no_calls, site_of, step_acting}
-use Rattle.cx_core.specs.Words.{Party}
+use Rattle.cx_core.specs.Words.{Party, Violation}
 use Rattle.cx_plain.specs.Task.{Level, Next, Task}
 
 -- the place of the assertion whose evaluation is told, if each before it has stood
 abbrev pub place_due : Party → Evaluation → List task.Due → Option ℕ
 place_due party e [] = None
 place_due party e (d ∷ due) =
-    if same_evaluation e (evaluation_of party d.check)
+    if same_evaluation e (evaluation_of party d.check.of)
     then Some 0
     else (if has_stood d then option_map (λ i. suc i) (place_due party e due) else None)
 
 -- the assertions of a list of what is owed
-abbrev pub checks_due : List task.Due → List tree.Check
+abbrev pub checks_due : List task.Due → List (tree.Specifier tree.Check)
 checks_due [] = []
 checks_due (d ∷ due) = d.check ∷ checks_due due
 
 -- the predicate of a check is evaluated, and so many evaluations follow
-abbrev pub checked : Level → Party → ℕ → tree.Check → List task.Due → Does Next
+abbrev pub checked : Level → Party → ℕ → tree.Specifier tree.Check → List task.Due → Does Next
 checked level party n c due =
-    doing (task.evaluated_truth level c.predicate) (task.verdict level c.assertion c.semantic ∷ task.then_next (task.evaluations level party n due) ∷ [])
+    doing (task.evaluated_truth level c.predicate) (task.verdict level c.of.assertion c.of.semantic ∷ task.then_next (task.evaluations level party n due) ∷ [])
 
 -- the evaluation that is told begins, for one unit of the budget
-abbrev pub begun : Level → Party → ℕ → tree.Check → List task.Due → Does Next
+abbrev pub begun : Level → Party → ℕ → tree.Specifier tree.Check → List task.Due → Does Next
 begun level party n c due = do
   spend
   begin_told
   checked level party n c due
+
+-- the default handler is called, which tells the violation
+abbrev pub default_handled : Violation → Does Nothing
+default_handled v = spend >> append (handler v)
 
 -- ---- calls
 
@@ -72,7 +76,7 @@ abbrev pub parameter_place : ℕ → Does Address
 parameter_place slot = named slot >>= place_of
 
 -- the frames of the parts of a constructor that follow its first checks, inside those of the construction
-abbrev pub constructor_frames : Level → Function → List FieldInit → Stmts → Call → List task.Frame → List task.Frame
+abbrev pub constructor_frames : Level → Function → List FieldInit → Stmts tree.Check → Call → List task.Frame → List task.Frame
 constructor_frames level f fields b c constructing =
     task.then_next (task.field_inits level fields)
     ∷ task.then_next (task.block level b)
@@ -81,7 +85,7 @@ constructor_frames level f fields b c constructing =
     ∷ constructing
 
 -- the frames of the parts of a destructor that follow its first checks
-abbrev pub destructor_frames : Level → Function → ℕ → Stmts → Address → List task.Frame → List task.Frame
+abbrev pub destructor_frames : Level → Function → ℕ → Stmts tree.Check → Address → List task.Frame → List task.Frame
 destructor_frames level f t b a told =
     task.then_next (task.block level b)
     ∷ task.edge_if true

@@ -1,8 +1,8 @@
 -- What the frames of this program stand for in the machine for the meaning; this project's own.
 use Rattle.std.specs.Prelude.{ℕ, List, [], ◌∷◌, map, reverse, Option}
 use Rattle.std.specs.Option.{option_map}
-use Rattle.cx_core.specs.Numbered.{Numbers, expr_of, operand_of, init_of, stmt_of, stmts_of}
-use Rattle.cx_core.specs.Linked.{assertion_of}
+use Rattle.cx_core.specs.View.{expr_of, operand_of, init_of, pointed_result, result_of}
+use Rattle.cx_core.specs.View.{assertion_of}
 use Rattle.cx_core.specs.Statements as statement
 use Rattle.cx_plain.specs.Task as task
 use Rattle.cx_plain_state.specs.Seen.{value_of, address_of, type_of, livings_of, exceptions_of, exception_of, frame_of}
@@ -33,8 +33,8 @@ use Rattle.cx_mean.specs.declared.waiting.CallFrame.{CallFrame}
 use Rattle.cx_mean.specs.declared.waiting.CallFrame.TheVariants as calls
 use Rattle.cx_mean.specs.declared.waiting.Next.{Next}
 use Rattle.cx_mean.specs.declared.waiting.Next.TheVariants as nexts
-use Rattle.cx_mean.specs.Seen.{args_of, handlers_of, result_kind_of, function_of}
-use Rattle.cx_mean.specs.Tasks.{level_of, call_of, keeper_of, loop_of, task_of}
+use Rattle.cx_mean.specs.Seen.{Table, stmt_of, stmts_of, args_of, handlers_of, function_of}
+use Rattle.cx_mean.specs.Tasks.{level_of, call_of, callee_of, keeper_of, loop_of, task_of}
 
 abbrev pub completion_of : Completion → statement.Completion
 completion_of completions.OnToNext = statement.on_to_next
@@ -90,50 +90,52 @@ leaving_frame_of (leavings.AsLeft left) = task.as_left (left_of left)
 leaving_frame_of (leavings.Within frame) = task.within (frame_of frame)
 leaving_frame_of (leavings.EdgeIf noexcept) = task.edge_if noexcept
 
-module _ (numbers : Numbers) where
-  abbrev pub operand_frame_of : OperandFrame → task.Frame
-  operand_frame_of (operands.Operate operation) = task.operate (operation_of operation)
-  operand_frame_of (operands.RightOperand level operator type b) =
-      task.right_operand (level_of level) operator type (operand_of numbers b.now)
-  operand_frame_of (operands.LeftPlace level a) = task.left_place (level_of level) (expr_of numbers a.now)
-  operand_frame_of (operands.CompoundPlace level operator computed kept a) =
-      task.compound_place (level_of level) operator computed kept (expr_of numbers a.now)
-  operand_frame_of operands.ToTruth = task.to_truth
-  operand_frame_of (operands.Decide level decides b) = task.decide (level_of level) decides (operand_of numbers b.now)
-  operand_frame_of (operands.Choose level b c) = task.choose (level_of level) (operand_of numbers b.now) (operand_of numbers c.now)
-  operand_frame_of operands.TruthAsValue = task.truth_as_value
-  operand_frame_of operands.PlaceOfObject = task.place_of_object
+abbrev pub operand_frame_of : OperandFrame → task.Frame
+operand_frame_of (operands.Operate operation) = task.operate (operation_of operation)
+operand_frame_of (operands.RightOperand level operator type b) =
+    task.right_operand (level_of level) operator type (operand_of b.now)
+operand_frame_of (operands.LeftPlace level a) = task.left_place (level_of level) (expr_of a.now)
+operand_frame_of (operands.CompoundPlace level operator computed kept a) =
+    task.compound_place (level_of level) operator computed kept (expr_of a.now)
+operand_frame_of operands.ToTruth = task.to_truth
+operand_frame_of (operands.Decide level decides b) = task.decide (level_of level) decides (operand_of b.now)
+operand_frame_of (operands.Choose level b c) = task.choose (level_of level) (operand_of b.now) (operand_of c.now)
+operand_frame_of operands.TruthAsValue = task.truth_as_value
+operand_frame_of operands.PlaceOfObject = task.place_of_object
 
-  abbrev pub argument_frame_of : ArgumentFrame → task.Frame
-  argument_frame_of (arguments.ReferenceArgument level rest) = task.reference_argument (level_of level) (args_of numbers rest.now)
-  argument_frame_of (arguments.ObjectArgument level rest) = task.object_argument (level_of level) (args_of numbers rest.now)
-  argument_frame_of (arguments.FirstArgument v) = task.first_argument (value_of v)
-  argument_frame_of (arguments.CallWith level f result) = task.call_with (level_of level) f (option_map value_of result)
-  argument_frame_of (arguments.CallIntoObject level f n) = task.call_into_object (level_of level) f n
-  argument_frame_of (arguments.ReadResult n) = task.read_result n
-  argument_frame_of (arguments.EndResult n) = task.end_result n
-  argument_frame_of (arguments.EndObject n) = task.end_object n
+abbrev pub argument_frame_of : ArgumentFrame → task.Frame
+argument_frame_of (arguments.ReferenceArgument level rest) = task.reference_argument (level_of level) (args_of rest.now)
+argument_frame_of (arguments.ObjectArgument level rest) = task.object_argument (level_of level) (args_of rest.now)
+argument_frame_of (arguments.FirstArgument v) = task.first_argument (value_of v)
+argument_frame_of (arguments.CallThrough level kind a) = task.call_through (level_of level) (pointed_result kind) (args_of a.now)
+argument_frame_of (arguments.ResultThrough level a p) = task.result_through (level_of level) (args_of a.now) (address_of p)
+argument_frame_of (arguments.CallWith level callee result) = task.call_with (level_of level) (callee_of callee) (option_map value_of result)
+argument_frame_of (arguments.CallIntoObject level callee n) = task.call_into_object (level_of level) (callee_of callee) n
+argument_frame_of (arguments.ReadResult n) = task.read_result n
+argument_frame_of (arguments.EndResult n) = task.end_result n
+argument_frame_of (arguments.EndObject n) = task.end_object n
 
+module _ (table : Table) where
   abbrev pub following_frame_of : FollowingFrame → task.Frame
   following_frame_of followings.Discard = task.discard
-  following_frame_of (followings.ThenNext t) = task.then_next (task_of numbers t.value)
+  following_frame_of (followings.ThenNext t) = task.then_next (task_of table t.value)
   following_frame_of (followings.Replace g) = task.replace (given_of g)
   following_frame_of followings.Completed = task.completed
   following_frame_of followings.Returning = task.returning
 
   abbrev pub statement_frame_of : StatementFrame → task.Frame
-  statement_frame_of (statements.Branch level a b) = task.branch (level_of level) (stmt_of numbers a.now.value) (stmt_of numbers b.now.value)
-  statement_frame_of (statements.Sequence level rest) = task.sequence (level_of level) (stmts_of numbers rest.now)
-  statement_frame_of (statements.Catching level h) = task.catching (level_of level) (handlers_of numbers h.now)
-  statement_frame_of (statements.TurnTested level l n) = task.turn_tested (level_of level) (loop_of numbers l) n
-  statement_frame_of (statements.TurnDone level l n) = task.turn_done (level_of level) (loop_of numbers l) n
+  statement_frame_of (statements.Branch level a b) = task.branch (level_of level) (stmt_of table a.now.value) (stmt_of table b.now.value)
+  statement_frame_of (statements.Sequence level rest) = task.sequence (level_of level) (stmts_of table rest.now)
+  statement_frame_of (statements.Catching level h) = task.catching (level_of level) (handlers_of table h.now)
+  statement_frame_of (statements.TurnTested level l n) = task.turn_tested (level_of level) (loop_of table l) n
+  statement_frame_of (statements.TurnDone level l n) = task.turn_done (level_of level) (loop_of table l) n
 
   abbrev pub call_frame_of : CallFrame → task.Frame
   call_frame_of (calls.Verdict level a semantic) = task.verdict (level_of level) (assertion_of a.now) semantic
   call_frame_of calls.Terminate = task.terminate
-  call_frame_of (calls.ValueGiven kind) = task.value_given (result_kind_of kind)
-  call_frame_of (calls.Postconditions level f c) = task.postconditions (level_of level) (function_of numbers f.now) (call_of c)
-  call_frame_of (calls.Posted level kind place v) = task.posted (level_of level) (result_kind_of kind) (option_map value_of place) (value_of v)
+  call_frame_of (calls.ValueGiven kind) = task.value_given (result_of kind)
+  call_frame_of (calls.Postconditions level f c) = task.postconditions (level_of level) (function_of table f.now) (call_of c)
+  call_frame_of (calls.Posted level kind place v) = task.posted (level_of level) (result_of kind) (option_map value_of place) (value_of v)
   call_frame_of (calls.Destroyed name a) = task.destroyed name.now (address_of a)
 
   abbrev pub waiting_of : Waiting → task.Frame
@@ -151,4 +153,4 @@ module _ (numbers : Numbers) where
 
   abbrev pub next_of : Next → task.Next
   next_of (nexts.Give g) = task.give (given_of g)
-  next_of (nexts.Go t frames) = task.go (task_of numbers t) (frames_of frames.items)
+  next_of (nexts.Go t frames) = task.go (task_of table t) (frames_of frames.items)

@@ -1,5 +1,5 @@
 -- Parts of the machine's steps that have functions of their own here.
-use Rattle.std.specs.Prelude.{ℕ, ◌+◌, Bool, not, if◌then◌else◌, List, [], ◌∷◌, Option, Some, map, reverse, pos, slice_get}
+use Rattle.std.specs.Prelude.{ℕ, ◌+◌, Bool, false, not, if◌then◌else◌, List, [], ◌∷◌, Option, Some, None, map, reverse, pos, slice_get}
 use Rattle.cx_core.specs.Tree as tree
 use Rattle.cx_core.specs.Tree.{ObjectType, Operand, Args, Init}
 use Rattle.cx_core.specs.Program.{Program, Class, Field}
@@ -8,14 +8,16 @@ use Rattle.cx_core.specs.Leaving.{class_fields}
 use Rattle.cx_core.specs.declared.number.IntegerType.{IntegerType}
 use Rattle.cx_core.specs.declared.number.BinaryOperator.{BinaryOperator}
 use Rattle.cx_core.specs.declared.number.UnaryOperator.{UnaryOperator}
-use Rattle.cx_core.specs.Store.{Address, Value, number, address, null, place_in}
-use Rattle.cx_core.specs.Outcome.{Living, whole, Exception, Does, Nothing, ◌>>=◌, ◌>>◌, gives, throws, some, current_frame, current_living, current_temporaries, current_held, set_held, append, set_temporaries, spend, spend_all, make, end_lifetime, place_of, read_leaf, write}
+use Rattle.cx_core.specs.Store.{Address, Value, number, address, null, function, place_in}
+use Rattle.cx_core.specs.Outcome.{Living, whole, Exception, Frame, Does, Nothing, ◌>>=◌, ◌>>◌, gives, throws, some, current_frame, current_living, current_temporaries, current_held, set_held, append, set_temporaries, spend, spend_all, make, end_lifetime, place_of, read_leaf, write}
 use Rattle.cx_core.specs.Check.{truth}
 use Rattle.cx_core.specs.Operators.{constant, named, bind, truth_value, operated, unary_operated, stored, updated, step}
 use Rattle.cx_core.specs.declared.unit.LeafKind.{LeafKind}
-use Rattle.cx_core.specs.Linked.{leaf_kind}
+use Rattle.cx_core.specs.View.{leaf_kind}
 use Rattle.cx_core.specs.Statements.{zero_leaf, zero_leaves, zero_object, keep_field, type_name}
-use Rattle.cx_core.specs.Meaning.{held_object, object_place, result_stored, copy_leaf}
+use Rattle.cx_core.specs.Calls.{Callee, result_stored}
+use Rattle.cx_core.specs.Leaving.{Call}
+use Rattle.cx_core.specs.Meaning.{held_object, object_place, copy_leaf}
 use Rattle.cx_plain.specs.Task as task
 use Rattle.cx_plain.specs.Task.{Level, Left, Keeper, Task, Next}
 use Rattle.cx_plain.specs.Step.{answered, bind_object, doing, giving, keeps, silent, left_by, no_calls, step_call, valued}
@@ -31,6 +33,9 @@ variable_of slot = spend >> named slot
 abbrev pub global_of : ℕ → Does Value
 global_of i = spend >> gives (object_place (i + 1))
 
+abbrev pub function_name_of : ℕ → Does Value
+function_name_of f = spend >> gives (function f)
+
 abbrev pub result_in_frame : Does Value
 result_in_frame = current_frame >>= (λ frame. some frame.result)
 
@@ -43,10 +48,10 @@ exception_object_of = current_held >>= held_object
 -- ---- calls
 
 -- a function is called with a scalar result object
-abbrev pub object_call : Level → ℕ → Args → Does Next
-object_call level f a = do
+abbrev pub object_call : Level → Callee → Args → Does Next
+object_call level callee a = do
   n ← make 1
-  doing (task.call_into level f a n) (task.end_result n ∷ [])
+  doing (task.call_into level callee a n) (task.end_result n ∷ [])
 
 abbrev pub function_called : Program → Level → ℕ → Args → Does Next
 function_called program level f a = some (slice_get program.functions f) >>= (λ definition. step_call program level definition.result f a)
@@ -138,10 +143,10 @@ abbrev pub pointer_zeroed : Address → Does Nothing
 pointer_zeroed a = spend >> write a (Some null)
 
 abbrev pub leaf_zeroed : Address → LeafKind → Does Nothing
-leaf_zeroed a kind = zero_leaf a (leaf_kind [] kind)
+leaf_zeroed a kind = zero_leaf a (leaf_kind kind)
 
 abbrev pub leaves_zeroed : Address → List LeafKind → Does Nothing
-leaves_zeroed a leaves = zero_leaves a (map (leaf_kind []) leaves)
+leaves_zeroed a leaves = zero_leaves a (map leaf_kind leaves)
 
 abbrev pub class_zeroed : Class → Address → Does Nothing
 class_zeroed c a = zero_leaves a c.leaves >> spend_all c.objects
@@ -161,15 +166,16 @@ decided level decides b x = spend >>
 abbrev pub chosen : Level → (b c : Operand) → Bool → Does Next
 chosen level b c x = spend >> (if x then doing (task.used level b) [] else doing (task.used level c) [])
 
-abbrev pub call_made : Level → ℕ → List Value → Option Value → Does Next
-call_made level f vs result = do
-  frame ← current_frame
-  doing (task.calling level.implicit level.counted (record { function = f; unit = frame.unit; arguments = vs; result = result })) []
-
-abbrev pub call_made_into : Level → ℕ → List Value → ℕ → Does Next
-call_made_into level f vs n = do
-  frame ← current_frame
-  doing (task.calling level.implicit level.counted (record { function = f; unit = frame.unit; arguments = vs; result = Some (object_place n) })) (task.read_result n ∷ [])
+-- a call that the active one makes, of a function by its name or through a pointer
+abbrev pub call_here : (named : Bool) → ℕ → List Value → Option Value → Frame → Call
+call_here named f arguments result frame = record {
+  function = f;
+  caller = if named then Some frame.unit else None;
+  unit = frame.unit;
+  reports = None;
+  arguments = arguments;
+  result = result;
+}
 
 abbrev pub result_ended : ℕ → Value → Does Next
 result_ended n v = valued (end_lifetime n >> gives v)
@@ -189,7 +195,9 @@ abbrev pub first_ending : Level → Living → List Living → Does Next
 first_ending level l living = doing (task.ending level l) (task.then_next (task.ending_each level living) ∷ [])
 
 abbrev pub destroyed_by : Level → Class → Address → Does Next
-destroyed_by level c a = doing (task.call_on level c.destructor a []) []
+destroyed_by level c a = do
+  frame ← current_frame
+  doing (task.calling level.implicit level.counted (call_here false c.destructor (address a ∷ []) None frame)) (task.discard ∷ [])
 
 abbrev pub first_destroying : Level → Address → ℕ × ℕ → List (ℕ × ℕ) → Does Next
 first_destroying level a f fields =
@@ -243,7 +251,7 @@ field_started level a type t rest = do
 abbrev pub default_started : Program → Level → (leaf class constructor : ℕ) → List Field → Does Next
 default_started program level leaf class constructor fields = do
   this ← this_place_of
-  field_started level (place_in this leaf) (tree.class class) (task.call_on level constructor (place_in this leaf) []) (task.default_fields level fields)
+  field_started level (place_in this leaf) (tree.class class) (task.construct_at level constructor (place_in this leaf) []) (task.default_fields level fields)
 
 abbrev pub copied_by : Level → Class → Address → Address → Does Next
-copied_by level c source to = doing (task.call_on level c.copy_constructor to (address source ∷ [])) []
+copied_by level c source to = doing (task.construct_at level c.copy_constructor to (address source ∷ [])) []

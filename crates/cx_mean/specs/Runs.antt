@@ -6,7 +6,7 @@ use Rattle.cx_core.specs.Event.{Evaluation}
 use Rattle.cx_core.specs.Outcome as outcome
 use Rattle.cx_core.specs.Store.{Value}
 use Rattle.cx_core.specs.Outcome.{Outcome, Does, on, over, after, gives, throws}
-use Rattle.cx_core.specs.Numbered.{Numbers}
+use Rattle.cx_mean.specs.Seen.{Table}
 use Rattle.cx_core.specs.Meaning as meaning
 use Rattle.cx_core.specs.Meaning.{mean, start}
 use Rattle.cx_plain.specs.Task as task
@@ -24,18 +24,18 @@ use Rattle.cx_mean.specs.declared.run.Meaning.{Meaning}
 use Rattle.cx_mean.specs.Tasks.{task_of}
 use Rattle.cx_mean.specs.Frames.{given_of, left_of, frames_of}
 
-abbrev pub config_of : Numbers → Standing → List Waiting → Config
+abbrev pub config_of : Table → Standing → List Waiting → Config
 config_of n (standings.Task t) stack = running (task_of n t) (frames_of n stack)
 config_of n (standings.Left left) stack = passing (left_of left) (frames_of n stack)
 
-abbrev pub Comes : Numbers → Outcome Config → Result Standing Stop → List Waiting → outcome.State → Type 0
+abbrev pub Comes : Table → Outcome Config → Result Standing Stop → List Waiting → outcome.State → Type 0
 Comes n o (Ok at) stack s = o ≡ on (config_of n at stack) s
 Comes n o (Err (stops.Over answer)) stack s = o ≡ over (answer_of answer) s.trace
 Comes n o (Err (stops.Left left)) stack s = o ≡ on (passing (left_of left) []) s
 Comes n o (Err stops.Want) stack s = Unit {0}
 
 -- a step comes to where the run stands next, or ends it
-pub record Stands (n : Numbers) (o : Outcome Config) (r : Result Standing Stop) (stack : List Waiting) (s : outcome.State) : Type 0 where
+pub record Stands (n : Table) (o : Outcome Config) (r : Result Standing Stop) (stack : List Waiting) (s : outcome.State) : Type 0 where
   pub comes : Comes n o r stack s
 
 abbrev pub meaning_of : Meaning → meaning.Meaning

@@ -3,7 +3,6 @@ use Rattle.std.specs.Prelude.{◌≡◌, Result}
 use Rattle.cx_core.specs.Store as store
 use Rattle.cx_core.specs.Outcome as outcome
 use Rattle.cx_core.specs.Outcome.{Does, Outcome, Nothing, after, gives, throws}
-use Rattle.cx_core.specs.Numbered.{Numbers}
 use Rattle.cx_plain.specs.Task as task
 use Rattle.cx_plain_state.specs.declared.answer.Halt.{Halt}
 use Rattle.cx_plain_state.specs.declared.state.State.{State}
@@ -12,17 +11,17 @@ use Rattle.cx_plain_state.specs.Seen.{state_of, value_of}
 use Rattle.cx_plain_state.specs.Ran.{Ran, unit_of}
 use Rattle.cx_mean.specs.declared.program.Program.{Program}
 use Rattle.cx_mean.specs.declared.waiting.Next.{Next}
-use Rattle.cx_mean.specs.Seen.{numbers_of}
+use Rattle.cx_mean.specs.Seen.{Table, table_of}
 use Rattle.cx_mean.specs.Frames.{next_of}
 
 abbrev pub Steps : Program → Does task.Next → Result Next Halt → (old new : State) → Type 0
-Steps p m result old new = Ran (next_of (numbers_of p)) (m (state_of old)) result (state_of new)
+Steps p m result old new = Ran (next_of (table_of p)) (m (state_of old)) result (state_of new)
 
 -- whatever comes to the first answer, the step that gives its value comes to the second
 abbrev pub GivesValue : Result Value Halt → Result Next Halt → Type 0
-GivesValue v result = (n : Numbers) (o : Outcome store.Value) (s : outcome.State) →
+GivesValue v result = (n : Table) (o : Outcome store.Value) (s : outcome.State) →
     Ran value_of o v s → Ran (next_of n) (after o (λ a. gives (task.give (task.value a))) throws) result s
 
 abbrev pub GivesNothing : {T : Type 0} → Result T Halt → Result Next Halt → Type 0
-GivesNothing done result = (n : Numbers) (o : Outcome Nothing) (s : outcome.State) →
+GivesNothing done result = (n : Table) (o : Outcome Nothing) (s : outcome.State) →
     Ran unit_of o done s → Ran (next_of n) (after o (λ _. gives (task.give task.nothing)) throws) result s

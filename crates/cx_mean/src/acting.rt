@@ -1,7 +1,7 @@
 //! What active calls do between their checks.
 ghost use Rattle.std.specs.Prelude.{◌≡◌, ◌∷◌, map, IfOk, IfErr, OnOk};
-ghost use Rattle.cx_core.specs.Meaning.{numbered, report, unit_of};
-ghost use Rattle.cx_core.specs.Numbered.{Numbers, stmts_of};
+ghost use Rattle.std.specs.Option.{option_map};
+ghost use Rattle.cx_core.specs.Meaning.{numbered, reported, unit_of};
 ghost use Rattle.cx_core.specs.Program as parts;
 ghost use Rattle.cx_core.specs.Program.{Program};
 ghost use Rattle.cx_core.specs.Leaving.{Call as CalledBy};
@@ -10,8 +10,8 @@ ghost use Rattle.cx_plain.specs.Step.{no_calls, site_of, step_acting, step_destr
 ghost use Rattle.cx_plain.specs.Task as tasks;
 ghost use Rattle.cx_plain_state.specs.declared.answer.Halt.TheVariants.{Want};
 ghost use Rattle.cx_plain_state.specs.Ran.{Ran, unit_of as nothing_of, values_of};
-ghost use Rattle.cx_plain_state.specs.Seen.{address_of, binding_of, state_of};
-ghost use Rattle.cx_mean.specs.Seen.{body_of, field_inits_of, function_of, numbers_of, program_of};
+ghost use Rattle.cx_plain_state.specs.Seen.{address_of, binding_of, state_of, violation_of};
+ghost use Rattle.cx_mean.specs.Seen.{Table, stmts_of, body_of, field_inits_of, function_of, table_of, program_of};
 ghost use Rattle.cx_mean.specs.Tasks.{call_of, level_of};
 ghost use Rattle.cx_mean.specs.Frames.{frames_of, waiting_of};
 ghost use Rattle.cx_mean.specs.CallParts.{active_frame, constructor_frames, copy_under, default_under, destructor_frames, entered, parameter_place};
@@ -23,8 +23,8 @@ use crate::program::Function;
 use crate::task::{Call, CallTask, CheckTask, Level, ObjectTask, Row, StatementTask, Task};
 use crate::waiting::{CallFrame, FollowingFrame, Given, LeavingFrame, Next, Waiting};
 use cx_code::{Kind, Party};
-use cx_core::{Body, FieldInitializer, ResultKind, Statement};
-use cx_plain_state::{Address, Binding, Event, Frame, Halt, State, Value, undefined};
+use cx_core::{Body, FieldInitializer, Statement};
+use cx_plain_state::{Address, Binding, Event, Frame, Halt, Report, State, Value, undefined};
 use std::alloc::{AllocError, Global};
 use std::mem;
 
@@ -40,14 +40,14 @@ fn parameter_place(state: &State<'_>, slot: u32) -> Result<Address, Halt>
     }
 }
 
-/// The violation that a handler is told is reported.
-#[tactic(auto, unfolding(cx_core::specs::Outcome::ends))]
-fn report<'p>(state: &mut State<'p>, arguments: &[Value<'p>]) -> Result<(), Halt>
-    ensures { (p : Program) → Ran nothing_of (report p no_calls (values_of arguments.now) (state_of state.old)) result (state_of state.new) }
+/// The violation that makes a call of its handler is told.
+#[tactic(auto, unfolding(cx_core::specs::Outcome::gives))]
+pub(crate) fn reported<'p>(state: &mut State<'p>, reports: Option<Report<'p>>) -> Result<(), Halt>
+    ensures { (p : Program) → Ran nothing_of (reported p no_calls (option_map violation_of reports.entry) (state_of state.old)) result (state_of state.new) }
 {
-    match arguments.first() {
-        Some(Value::Violation(report)) => state.append(Event::Handler(*report)),
-        _ => Err(undefined(Kind::Mixed)),
+    match reports {
+        None => Ok(()),
+        Some(report) => state.append(Event::Handler(report)),
     }
 }
 
@@ -57,7 +57,9 @@ fn site<'p>(alloc: Global, c: &Call<'p>) -> Call<'p>
 {
     Call {
         function: c.function,
+        caller: c.caller,
         unit: c.unit,
+        reports: c.reports,
         arguments: Vec::new(alloc),
         result: None,
     }
@@ -74,11 +76,10 @@ impl<'p> Machine<'p> {
         c: Call<'p>,
         frames: Vec<Waiting<'p>>,
     ) -> Result<Next<'p>, Halt>
-        ensures { let p = self.now.program.now in let n = numbers_of p in Steps p (step_acting (program_of p) (level_of level) (body_of n f.now.body) (function_of n f.now) (call_of c.entry) (frames_of n frames.entry.items)) result state.old state.new }
+        ensures { let p = self.now.program.now in let n = table_of p in Steps p (step_acting (program_of p) (level_of level) (body_of n f.now.body) (function_of n f.now) (call_of c.entry) (frames_of n frames.entry.items)) result state.old state.new }
     {
         match &f.body {
             Body::Function(b) => self.acting_function(state, level, f, b, c, frames),
-            Body::ViolationHandler(b) => self.acting_handler(state, level, f, b, c, frames),
             Body::Constructor(fields, b) => self.acting_constructor(
                 state, level, f, fields, b, c, frames,
             ),
@@ -98,7 +99,7 @@ impl<'p> Machine<'p> {
 
     /// The edge of a function inside other frames, which no exception passes if it is `noexcept`.
     fn edged(&self, frames: Vec<Waiting<'p>>, f: &Function) -> Result<Vec<Waiting<'p>>, AllocError>
-        ensures { let n = numbers_of self.now.program.now in IfOk result (λ all. frames_of n all.items ≡ tasks.edge_if f.now.noexcept ∷ frames_of n frames.entry.items) }
+        ensures { let n = table_of self.now.program.now in IfOk result (λ all. frames_of n all.items ≡ tasks.edge_if f.now.noexcept ∷ frames_of n frames.entry.items) }
     {
         self.framed(frames, Waiting::Leaving(LeavingFrame::EdgeIf(f.noexcept)))
     }
@@ -113,7 +114,7 @@ impl<'p> Machine<'p> {
         c: Call<'p>,
         frames: Vec<Waiting<'p>>,
     ) -> Result<Next<'p>, Halt>
-        ensures { let p = self.now.program.now in let n = numbers_of p in Steps p (step_acting (program_of p) (level_of level) (parts.function (stmts_of n b.now)) (function_of n f.now) (call_of c.entry) (frames_of n frames.entry.items)) result state.now state.now }
+        ensures { let p = self.now.program.now in let n = table_of p in Steps p (step_acting (program_of p) (level_of level) (parts.function (stmts_of n b.now)) (function_of n f.now) (call_of c.entry) (frames_of n frames.entry.items)) result state.now state.now }
     {
         let before = CallTask::Before(level, f, site(self.alloc, &c));
         let frames = self.edged(frames, f)?;
@@ -126,24 +127,6 @@ impl<'p> Machine<'p> {
         self.under_all(state, Task::Call(before), frames)
     }
 
-    /// The violation handler: it reports what it is told, and its body runs.
-    fn acting_handler(
-        &self,
-        state: &mut State<'p>,
-        level: Level,
-        f: &'p Function,
-        b: &'p [Statement],
-        c: Call<'p>,
-        frames: Vec<Waiting<'p>>,
-    ) -> Result<Next<'p>, Halt>
-        ensures { let p = self.now.program.now in let n = numbers_of p in Steps p (step_acting (program_of p) (level_of level) (parts.violation_handler (stmts_of n b.now)) (function_of n f.now) (call_of c.entry) (frames_of n frames.entry.items)) result state.old state.new }
-    {
-        report(state, &c.arguments)?;
-        let frames = self.edged(frames, f)?;
-        let body = CallTask::Body(level, ResultKind::Void, b);
-        self.under_all(state, Task::Call(body), frames)
-    }
-
     /// The frames of the parts of a constructor that follow its first checks.
     fn constructor_frames(
         &self,
@@ -154,7 +137,7 @@ impl<'p> Machine<'p> {
         c: &Call<'p>,
         constructing: Vec<Waiting<'p>>,
     ) -> Result<Vec<Waiting<'p>>, AllocError>
-        ensures { let n = numbers_of self.now.program.now in IfOk result (λ all. frames_of n all.items ≡ constructor_frames (level_of level) (function_of n f.now) (field_inits_of n fields.now) (stmts_of n b.now) (call_of c.now) (frames_of n constructing.entry.items)) }
+        ensures { let n = table_of self.now.program.now in IfOk result (λ all. frames_of n all.items ≡ constructor_frames (level_of level) (function_of n f.now) (field_inits_of fields.now) (stmts_of n b.now) (call_of c.now) (frames_of n constructing.entry.items)) }
     {
         let null = Waiting::Following(FollowingFrame::Replace(Given::Value(Value::Null)));
         let frames = self.framed(constructing, null)?;
@@ -176,7 +159,7 @@ impl<'p> Machine<'p> {
         c: Call<'p>,
         frames: Vec<Waiting<'p>>,
     ) -> Result<Next<'p>, Halt>
-        ensures { let p = self.now.program.now in let n = numbers_of p in Steps p (step_acting (program_of p) (level_of level) (parts.constructor (field_inits_of n fields.now) (stmts_of n b.now)) (function_of n f.now) (call_of c.entry) (frames_of n frames.entry.items)) result state.old state.new }
+        ensures { let p = self.now.program.now in let n = table_of p in Steps p (step_acting (program_of p) (level_of level) (parts.constructor (field_inits_of fields.now) (stmts_of n b.now)) (function_of n f.now) (call_of c.entry) (frames_of n frames.entry.items)) result state.old state.new }
     {
         let constructing = self.enter_construction(state, level);
         let edged = self.edged(frames, f)?;
@@ -192,7 +175,7 @@ impl<'p> Machine<'p> {
         constructing: Waiting<'p>,
         frames: Vec<Waiting<'p>>,
     ) -> Result<Vec<Waiting<'p>>, AllocError>
-        ensures { let n = numbers_of self.now.program.now in IfOk result (λ all. frames_of n all.items ≡ tasks.replace (tasks.value null) ∷ waiting_of n constructing.entry ∷ frames_of n frames.entry.items) }
+        ensures { let n = table_of self.now.program.now in IfOk result (λ all. frames_of n all.items ≡ tasks.replace (tasks.value null) ∷ waiting_of n constructing.entry ∷ frames_of n frames.entry.items) }
     {
         let frames = self.framed(frames, constructing)?;
         let null = Waiting::Following(FollowingFrame::Replace(Given::Value(Value::Null)));
@@ -208,7 +191,7 @@ impl<'p> Machine<'p> {
         constructing: Waiting<'p>,
         frames: Vec<Waiting<'p>>,
     ) -> Result<Next<'p>, Halt>
-        ensures { let p = self.now.program.now in let n = numbers_of p in Steps p (default_under (program_of p) (level_of level) class (waiting_of n constructing.entry) (frames_of n frames.entry.items)) result state.now state.now }
+        ensures { let p = self.now.program.now in let n = table_of p in Steps p (default_under (program_of p) (level_of level) class (waiting_of n constructing.entry) (frames_of n frames.entry.items)) result state.now state.now }
     {
         let definition = self.class_with(state, class)?;
         let frames = self.implicit_frames(constructing, frames)?;
@@ -224,7 +207,7 @@ impl<'p> Machine<'p> {
         class: u32,
         frames: Vec<Waiting<'p>>,
     ) -> Result<Next<'p>, Halt>
-        ensures { let p = self.now.program.now in let n = numbers_of p in (f : parts.Function) (c : CalledBy) → Steps p (step_acting (program_of p) (level_of level) (parts.implicit_constructor class) f c (frames_of n frames.entry.items)) result state.old state.new }
+        ensures { let p = self.now.program.now in let n = table_of p in (f : parts.Function) (c : CalledBy) → Steps p (step_acting (program_of p) (level_of level) (parts.implicit_constructor class) f c (frames_of n frames.entry.items)) result state.old state.new }
     {
         let constructing = self.enter_construction(state, level);
         self.default_under(state, level, class, constructing, frames)
@@ -239,7 +222,7 @@ impl<'p> Machine<'p> {
         constructing: Waiting<'p>,
         frames: Vec<Waiting<'p>>,
     ) -> Result<Next<'p>, Halt>
-        ensures { let p = self.now.program.now in let n = numbers_of p in Steps p (copy_under (program_of p) (level_of level) class (waiting_of n constructing.entry) (frames_of n frames.entry.items)) result state.now state.now }
+        ensures { let p = self.now.program.now in let n = table_of p in Steps p (copy_under (program_of p) (level_of level) class (waiting_of n constructing.entry) (frames_of n frames.entry.items)) result state.now state.now }
     {
         let definition = self.class_with(state, class)?;
         let to = parameter_place(state, 0)?;
@@ -262,7 +245,7 @@ impl<'p> Machine<'p> {
         class: u32,
         frames: Vec<Waiting<'p>>,
     ) -> Result<Next<'p>, Halt>
-        ensures { let p = self.now.program.now in let n = numbers_of p in (f : parts.Function) (c : CalledBy) → Steps p (step_acting (program_of p) (level_of level) (parts.implicit_copy_constructor class) f c (frames_of n frames.entry.items)) result state.old state.new }
+        ensures { let p = self.now.program.now in let n = table_of p in (f : parts.Function) (c : CalledBy) → Steps p (step_acting (program_of p) (level_of level) (parts.implicit_copy_constructor class) f c (frames_of n frames.entry.items)) result state.old state.new }
     {
         let constructing = self.enter_construction(state, level);
         self.copy_under(state, level, class, constructing, frames)
@@ -278,7 +261,7 @@ impl<'p> Machine<'p> {
         a: Address,
         frames: Vec<Waiting<'p>>,
     ) -> Result<Vec<Waiting<'p>>, AllocError>
-        ensures { let n = numbers_of self.now.program.now in IfOk result (λ all. frames_of n all.items ≡ destructor_frames (level_of level) (function_of n f.now) class (stmts_of n b.now) (address_of a) (frames_of n frames.entry.items)) }
+        ensures { let n = table_of self.now.program.now in IfOk result (λ all. frames_of n all.items ≡ destructor_frames (level_of level) (function_of n f.now) class (stmts_of n b.now) (address_of a) (frames_of n frames.entry.items)) }
     {
         let row = Row::Specifiers(&f.postconditions);
         let frames = self.followed(frames, Task::Check(CheckTask::EdgedChecks(level, row)))?;
@@ -299,7 +282,7 @@ impl<'p> Machine<'p> {
         b: &'p [Statement],
         frames: Vec<Waiting<'p>>,
     ) -> Result<Next<'p>, Halt>
-        ensures { let p = self.now.program.now in let n = numbers_of p in Steps p (step_destructor (program_of p) (level_of level) (function_of n f.now) class (stmts_of n b.now) (frames_of n frames.entry.items)) result state.old state.new }
+        ensures { let p = self.now.program.now in let n = table_of p in Steps p (step_destructor (program_of p) (level_of level) (function_of n f.now) class (stmts_of n b.now) (frames_of n frames.entry.items)) result state.old state.new }
     {
         let a = parameter_place(state, 0)?;
         let definition = self.class_with(state, class)?;
@@ -336,7 +319,7 @@ fn numbered<'p>(alloc: Global, slot: u32, arguments: &[Value<'p>]) -> Result<Vec
 
 /// The unit whose code an active call runs.
 fn unit_of(f: &Function, c: &Call<'_>) -> u32
-    ensures { (p : Program) (n : Numbers) → result ≡ unit_of p no_calls (function_of n f.now) (call_of c.now) }
+    ensures { (p : Program) (n : Table) → result ≡ unit_of p no_calls (function_of n f.now) (call_of c.now) }
 {
     if is_counted(&f.body) {
         f.definer
@@ -355,8 +338,8 @@ impl<'p> Machine<'p> {
         f: &Function,
         c: &Call<'p>,
     ) -> Result<Waiting<'p>, Halt>
-        ensures frame { IfOk result (λ w. waiting_of (numbers_of self.now.program.now) w ≡ tasks.within (state_of state.old).frame) }
-        ensures entered { let p = self.now.program.now in OnOk result (state_of state.new ≡ record (state_of state.old) { frame = active_frame (program_of p) (function_of (numbers_of p) f.now) (call_of c.now) }) }
+        ensures frame { IfOk result (λ w. waiting_of (table_of self.now.program.now) w ≡ tasks.within (state_of state.old).frame) }
+        ensures entered { let p = self.now.program.now in OnOk result (state_of state.new ≡ record (state_of state.old) { frame = active_frame (program_of p) (function_of (table_of p) f.now) (call_of c.now) }) }
         ensures want { IfErr result (λ halt. halt ≡ Want) }
     {
         let unit = unit_of(f, c);
@@ -381,7 +364,7 @@ impl<'p> Machine<'p> {
         f: &'p Function,
         c: Call<'p>,
     ) -> Result<Next<'p>, Halt>
-        ensures { let p = self.now.program.now in let n = numbers_of p in Steps p (entered (program_of p) (level_of level) (function_of n f.now) (call_of c.entry)) result state.old state.new }
+        ensures { let p = self.now.program.now in let n = table_of p in Steps p (entered (program_of p) (level_of level) (function_of n f.now) (call_of c.entry)) result state.old state.new }
     {
         let within = self.enter_call(state, f, &c)?;
         let frames = vec![in self.alloc; within]?;

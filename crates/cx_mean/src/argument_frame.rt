@@ -2,24 +2,40 @@
 ghost use Rattle.std.specs.Prelude.{[], ◌∷◌};
 ghost use Rattle.std.specs.Option.{option_map};
 ghost use Rattle.cx_core.specs.Outcome.{end_lifetime};
-ghost use Rattle.cx_plain.specs.Step.{doing, step_given, step_thrown};
-ghost use Rattle.cx_plain_state.specs.Ran.{Ran, unit_of, values_of};
-ghost use Rattle.cx_plain_state.specs.Seen.{state_of, value_of, exception_of};
-ghost use Rattle.cx_mean.specs.Seen.{numbers_of, program_of, args_of};
-ghost use Rattle.cx_mean.specs.Tasks.{level_of};
-ghost use Rattle.cx_mean.specs.Frames.{given_of, argument_frame_of};
-ghost use Rattle.cx_mean.specs.Parts.{call_made, call_made_into, result_ended, ended_by};
+ghost use Rattle.cx_plain.specs.Step.{doing, step_call_through, step_call_to, step_given, step_thrown};
+ghost use Rattle.cx_plain_state.specs.Ran.{Ran, itself, unit_of, values_of};
+ghost use Rattle.cx_plain_state.specs.Seen.{address_of, state_of, value_of, exception_of};
+ghost use Rattle.cx_mean.specs.Seen.{table_of, program_of, args_of};
+ghost use Rattle.cx_mean.specs.Tasks.{callee_of, level_of};
+ghost use Rattle.cx_mean.specs.Frames.{frames_of, given_of, argument_frame_of};
+ghost use Rattle.cx_core.specs.Calls.{function_held};
+ghost use Rattle.cx_core.specs.View.{pointed_result};
+ghost use Rattle.cx_mean.specs.Parts.{result_ended, ended_by};
 ghost use Rattle.cx_mean.specs.Steps.{Steps};
 ghost use Rattle.cx_plain.specs.Task as tasks;
 
 use crate::leaf::valued;
 use crate::machine::Machine;
 use crate::operand_frame::object_place;
-use crate::task::{Call, CallTask, ExpressionTask, Level, Task};
-use crate::waiting::{ArgumentFrame, Given, Next, Waiting};
+use crate::task::{CallTask, Callee, ExpressionTask, Level, Task};
+use crate::waiting::{ArgumentFrame, FollowingFrame, Given, Next, Waiting};
 use cx_code::Kind;
-use cx_core::Argument;
+use cx_core::{Argument, PointedResult};
 use cx_plain_state::{Address, Exception, Halt, State, Value, undefined};
+
+/// The function that a pointer holds.
+#[tactic(auto, unfolding(cx_core::specs::Outcome::gives, cx_core::specs::Outcome::ends))]
+fn function_held(state: &State<'_>, pointer: Value<'_>) -> Result<u32, Halt>
+    ensures { Ran itself (function_held (value_of pointer.entry) (state_of state.now)) result (state_of state.now) }
+{
+    match pointer {
+        Value::Function(function) => Ok(function),
+        Value::Null => Err(undefined(Kind::Null)),
+        Value::Number(_) => Err(undefined(Kind::Mixed)),
+        Value::Address(_) => Err(undefined(Kind::Mixed)),
+        Value::Violation(_) => Err(undefined(Kind::Mixed)),
+    }
+}
 
 /// The lifetime of an object ends.
 #[tactic(auto, unfolding(cx_core::specs::Outcome::either))]
@@ -41,68 +57,102 @@ impl<'p> Machine<'p> {
         a: &'p [Argument],
         frame: ArgumentFrame<'p>,
     ) -> Result<Next<'p>, Halt>
-        ensures { let p = self.now.program.now in let n = numbers_of p in Steps p (doing (tasks.arguments (level_of level) (args_of n a.now)) (argument_frame_of n frame.entry ∷ [])) result state.now state.now }
+        ensures { let p = self.now.program.now in Steps p (doing (tasks.arguments (level_of level) (args_of a.now)) (argument_frame_of frame.entry ∷ [])) result state.now state.now }
     {
         let task = Task::Expression(ExpressionTask::Arguments(level, a));
         self.under(state, task, Waiting::Argument(frame))
     }
 
     /// A call is made from the active one.
-    #[tactic(auto, unfolding(cx_plain_state::specs::Seen::state_of, cx_core::specs::Outcome::either, cx_core::specs::Outcome::current_frame))]
-    pub(crate) fn make_call(
+    fn make_call(
         &self,
         state: &State<'p>,
         level: Level,
-        function: u32,
+        callee: Callee<'p>,
         arguments: Vec<Value<'p>>,
         place: Option<Value<'p>>,
+        frames: Vec<Waiting<'p>>,
     ) -> Result<Next<'p>, Halt>
-        ensures { let p = self.now.program.now in let n = numbers_of p in Steps p (call_made (level_of level) function (values_of arguments.entry.items) (option_map value_of place.entry)) result state.now state.now }
+        ensures { let p = self.now.program.now in Steps p (step_call_to (program_of p) (level_of level) (callee_of callee.entry) (values_of arguments.entry.items) (option_map value_of place.entry) (frames_of (table_of p) frames.entry.items)) result state.now state.now }
     {
-        let unit = state.frame.unit;
-        let call = Call {
-            function,
-            unit,
-            arguments,
-            result: place,
-        };
-        self.doing(
-            state,
-            Task::Call(CallTask::Calling(level.implicit, level.counted, call)),
-        )
+        match callee {
+            Callee::ByName(function) => {
+                let task = self.call_here(state, level, function, true, arguments, place);
+                self.under_all(state, task, frames)
+            }
+            Callee::ByPointer(pointer) => {
+                let function = function_held(state, pointer)?;
+                let task = self.call_here(state, level, function, false, arguments, place);
+                self.under_all(state, task, frames)
+            }
+        }
     }
 
-    /// A call is made with a result object, whose value is read then.
-    #[tactic(auto, unfolding(cx_plain_state::specs::Seen::state_of, cx_core::specs::Outcome::either, cx_core::specs::Outcome::current_frame))]
-    fn make_call_into(
+    /// What a pointer holds is called, by what the call gives.
+    fn called_through(
+        &self,
+        state: &mut State<'p>,
+        level: Level,
+        kind: PointedResult,
+        pointer: Value<'p>,
+        a: &'p [Argument],
+    ) -> Result<Next<'p>, Halt>
+        ensures { let p = self.now.program.now in Steps p (step_call_through (program_of p) (level_of level) (pointed_result kind) (value_of pointer.entry) (args_of a.now)) result state.old state.new }
+    {
+        let callee = Callee::ByPointer(pointer);
+        match kind {
+            PointedResult::Scalar => self.call_with_object(state, level, callee, a),
+            PointedResult::Void | PointedResult::Reference => {
+                self.doing(
+                    state,
+                    Task::Call(CallTask::CallOf(level, callee, None, a, None)),
+                )
+            }
+        }
+    }
+
+    /// The pointer that is called is given.
+    fn call_through(
+        &self,
+        state: &mut State<'p>,
+        level: Level,
+        kind: PointedResult,
+        a: &'p [Argument],
+        given: Given<'p>,
+    ) -> Result<Next<'p>, Halt>
+        ensures { let p = self.now.program.now in Steps p (step_given (program_of p) (tasks.call_through (level_of level) (pointed_result kind) (args_of a.now)) (given_of given.entry)) result state.old state.new }
+    {
+        match given {
+            Given::Value(v) => self.called_through(state, level, kind, v, a),
+            _ => Err(undefined(Kind::Mixed)),
+        }
+    }
+
+    /// The pointer whose call initialises an object is given.
+    fn result_through(
         &self,
         state: &State<'p>,
         level: Level,
-        function: u32,
-        arguments: Vec<Value<'p>>,
-        object: u64,
+        a: &'p [Argument],
+        place: Address,
+        given: Given<'p>,
     ) -> Result<Next<'p>, Halt>
-        ensures { let p = self.now.program.now in let n = numbers_of p in Steps p (call_made_into (level_of level) function (values_of arguments.entry.items) object) result state.now state.now }
+        ensures { let p = self.now.program.now in Steps p (step_given (program_of p) (tasks.result_through (level_of level) (args_of a.now) (address_of place)) (given_of given.entry)) result state.now state.now }
     {
-        let unit = state.frame.unit;
-        let result = Some(object_place(object));
-        let call = Call {
-            function,
-            unit,
-            arguments,
-            result,
-        };
-        let task = Task::Call(CallTask::Calling(level.implicit, level.counted, call));
-        self.under(
-            state,
-            task,
-            Waiting::Argument(ArgumentFrame::ReadResult(object)),
-        )
+        match given {
+            Given::Value(v) => {
+                let result = Some(Value::Address(place));
+                let task = CallTask::CallOf(level, Callee::ByPointer(v), None, a, result);
+                let discard = Waiting::Following(FollowingFrame::Discard);
+                self.under(state, Task::Call(task), discard)
+            }
+            _ => Err(undefined(Kind::Mixed)),
+        }
     }
 
     /// A result object ends, and its value is given.
     fn end_result(&self, state: &mut State<'p>, object: u64, v: Value<'p>) -> Result<Next<'p>, Halt>
-        ensures { let p = self.now.program.now in let n = numbers_of p in Steps p (result_ended object (value_of v.entry)) result state.old state.new }
+        ensures { let p = self.now.program.now in Steps p (result_ended object (value_of v.entry)) result state.old state.new }
     {
         end_lifetime(state, object)?;
         Ok(Next::Give(Given::Value(v)))
@@ -115,7 +165,7 @@ impl<'p> Machine<'p> {
         first: Value<'p>,
         given: Given<'p>,
     ) -> Result<Next<'p>, Halt>
-        ensures { let p = self.now.program.now in let n = numbers_of p in Steps p (step_given (program_of p) (tasks.first_argument (value_of first.entry)) (given_of given.entry)) result state.now state.now }
+        ensures { let p = self.now.program.now in Steps p (step_given (program_of p) (tasks.first_argument (value_of first.entry)) (given_of given.entry)) result state.now state.now }
     {
         match given {
             Given::Values(mut values) => {
@@ -134,7 +184,7 @@ impl<'p> Machine<'p> {
         rest: &'p [Argument],
         given: Given<'p>,
     ) -> Result<Next<'p>, Halt>
-        ensures { let p = self.now.program.now in let n = numbers_of p in Steps p (step_given (program_of p) (tasks.reference_argument (level_of level) (args_of n rest.now)) (given_of given.entry)) result state.now state.now }
+        ensures { let p = self.now.program.now in Steps p (step_given (program_of p) (tasks.reference_argument (level_of level) (args_of rest.now)) (given_of given.entry)) result state.now state.now }
     {
         match given {
             Given::Value(v) => self.arguments_under(
@@ -155,7 +205,7 @@ impl<'p> Machine<'p> {
         rest: &'p [Argument],
         given: Given<'p>,
     ) -> Result<Next<'p>, Halt>
-        ensures { let p = self.now.program.now in let n = numbers_of p in Steps p (step_given (program_of p) (tasks.object_argument (level_of level) (args_of n rest.now)) (given_of given.entry)) result state.now state.now }
+        ensures { let p = self.now.program.now in Steps p (step_given (program_of p) (tasks.object_argument (level_of level) (args_of rest.now)) (given_of given.entry)) result state.now state.now }
     {
         match given {
             Given::Number(object) => {
@@ -171,14 +221,17 @@ impl<'p> Machine<'p> {
         &self,
         state: &State<'p>,
         level: Level,
-        function: u32,
+        callee: Callee<'p>,
         place: Option<Value<'p>>,
         given: Given<'p>,
     ) -> Result<Next<'p>, Halt>
-        ensures { let p = self.now.program.now in let n = numbers_of p in Steps p (step_given (program_of p) (tasks.call_with (level_of level) function (option_map value_of place.entry)) (given_of given.entry)) result state.now state.now }
+        ensures { let p = self.now.program.now in Steps p (step_given (program_of p) (tasks.call_with (level_of level) (callee_of callee.entry) (option_map value_of place.entry)) (given_of given.entry)) result state.now state.now }
     {
         match given {
-            Given::Values(values) => self.make_call(state, level, function, values, place),
+            Given::Values(values) => {
+                let frames = Vec::new(self.alloc);
+                self.make_call(state, level, callee, values, place, frames)
+            }
             _ => Err(undefined(Kind::Mixed)),
         }
     }
@@ -188,14 +241,19 @@ impl<'p> Machine<'p> {
         &self,
         state: &State<'p>,
         level: Level,
-        function: u32,
+        callee: Callee<'p>,
         object: u64,
         given: Given<'p>,
     ) -> Result<Next<'p>, Halt>
-        ensures { let p = self.now.program.now in let n = numbers_of p in Steps p (step_given (program_of p) (tasks.call_into_object (level_of level) function object) (given_of given.entry)) result state.now state.now }
+        ensures { let p = self.now.program.now in Steps p (step_given (program_of p) (tasks.call_into_object (level_of level) (callee_of callee.entry) object) (given_of given.entry)) result state.now state.now }
     {
         match given {
-            Given::Values(values) => self.make_call_into(state, level, function, values, object),
+            Given::Values(values) => {
+                let read = Waiting::Argument(ArgumentFrame::ReadResult(object));
+                let frames = vec![in self.alloc; read]?;
+                let place = Some(object_place(object));
+                self.make_call(state, level, callee, values, place, frames)
+            }
             _ => Err(undefined(Kind::Mixed)),
         }
     }
@@ -207,7 +265,7 @@ impl<'p> Machine<'p> {
         object: u64,
         given: Given<'p>,
     ) -> Result<Next<'p>, Halt>
-        ensures { let p = self.now.program.now in let n = numbers_of p in Steps p (step_given (program_of p) (tasks.end_result object) (given_of given.entry)) result state.old state.new }
+        ensures { let p = self.now.program.now in Steps p (step_given (program_of p) (tasks.end_result object) (given_of given.entry)) result state.old state.new }
     {
         match given {
             Given::Value(v) => self.end_result(state, object, v),
@@ -217,7 +275,7 @@ impl<'p> Machine<'p> {
 
     /// An object ends, and nothing is given.
     fn end_object(&self, state: &mut State<'p>, object: u64) -> Result<Next<'p>, Halt>
-        ensures { let p = self.now.program.now in let n = numbers_of p in Steps p (step_given (program_of p) (tasks.end_object object) tasks.nothing) result state.old state.new }
+        ensures { let p = self.now.program.now in Steps p (step_given (program_of p) (tasks.end_object object) tasks.nothing) result state.old state.new }
     {
         end_lifetime(state, object)?;
         Ok(Next::Give(Given::Nothing))
@@ -230,7 +288,7 @@ impl<'p> Machine<'p> {
         frame: ArgumentFrame<'p>,
         given: Given<'p>,
     ) -> Result<Next<'p>, Halt>
-        ensures { let p = self.now.program.now in let n = numbers_of p in Steps p (step_given (program_of p) (argument_frame_of n frame.entry) (given_of given.entry)) result state.old state.new }
+        ensures { let p = self.now.program.now in Steps p (step_given (program_of p) (argument_frame_of frame.entry) (given_of given.entry)) result state.old state.new }
     {
         match frame {
             ArgumentFrame::ReferenceArgument(level, rest) => self.reference_argument(
@@ -240,11 +298,17 @@ impl<'p> Machine<'p> {
                 state, level, rest, given,
             ),
             ArgumentFrame::FirstArgument(first) => self.first_argument(state, first, given),
-            ArgumentFrame::CallWith(level, function, place) => self.call_with(
-                state, level, function, place, given,
+            ArgumentFrame::CallThrough(level, kind, a) => self.call_through(
+                state, level, kind, a, given,
             ),
-            ArgumentFrame::CallIntoObject(level, function, object) => self.call_into_object(
-                state, level, function, object, given,
+            ArgumentFrame::ResultThrough(level, a, place) => self.result_through(
+                state, level, a, place, given,
+            ),
+            ArgumentFrame::CallWith(level, callee, place) => self.call_with(
+                state, level, callee, place, given,
+            ),
+            ArgumentFrame::CallIntoObject(level, callee, object) => self.call_into_object(
+                state, level, callee, object, given,
             ),
             ArgumentFrame::ReadResult(object) => valued(state.read(Address { object, leaf: 0 })),
             ArgumentFrame::EndResult(object) => self.result_given(state, object, given),
@@ -259,7 +323,7 @@ impl<'p> Machine<'p> {
         object: u64,
         e: Exception,
     ) -> Result<Next<'p>, Halt>
-        ensures { let p = self.now.program.now in let n = numbers_of p in Steps p (ended_by object (exception_of e)) result state.old state.new }
+        ensures { let p = self.now.program.now in Steps p (ended_by object (exception_of e)) result state.old state.new }
     {
         end_lifetime(state, object)?;
         Err(Halt::Thrown(e))
@@ -272,13 +336,15 @@ impl<'p> Machine<'p> {
         frame: ArgumentFrame<'p>,
         e: Exception,
     ) -> Result<Next<'p>, Halt>
-        ensures { let p = self.now.program.now in let n = numbers_of p in Steps p (step_thrown (program_of p) (argument_frame_of n frame.entry) (exception_of e)) result state.old state.new }
+        ensures { let p = self.now.program.now in Steps p (step_thrown (program_of p) (argument_frame_of frame.entry) (exception_of e)) result state.old state.new }
     {
         match frame {
             ArgumentFrame::EndResult(object) => self.end_thrown(state, object, e),
             ArgumentFrame::ReferenceArgument(_, _) => Err(Halt::Thrown(e)),
             ArgumentFrame::ObjectArgument(_, _) => Err(Halt::Thrown(e)),
             ArgumentFrame::FirstArgument(_) => Err(Halt::Thrown(e)),
+            ArgumentFrame::CallThrough(_, _, _) => Err(Halt::Thrown(e)),
+            ArgumentFrame::ResultThrough(_, _, _) => Err(Halt::Thrown(e)),
             ArgumentFrame::CallWith(_, _, _) => Err(Halt::Thrown(e)),
             ArgumentFrame::CallIntoObject(_, _, _) => Err(Halt::Thrown(e)),
             ArgumentFrame::ReadResult(_) => Err(Halt::Thrown(e)),

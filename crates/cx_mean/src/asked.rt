@@ -4,24 +4,21 @@ ghost use Rattle.std.specs.Option.{option_map};
 ghost use Rattle.cx_core.specs.Leaving.{class_at};
 ghost use Rattle.cx_core.specs.Meaning.{caller_checks, checks_at, is_implicit_at, or_no_checks};
 ghost use Rattle.cx_core.specs.Program.{is_counted};
-ghost use Rattle.cx_core.specs.Numbered.{Numbers};
 ghost use Rattle.cx_plain.specs.Step.{no_calls};
 ghost use Rattle.cx_plain_state.specs.Ran.{Ran};
 ghost use Rattle.cx_plain_state.specs.Seen.{state_of};
-ghost use Rattle.cx_mean.specs.Seen.{body_of, caller_of, checks_of, class_of, function_of, numbers_of, program_of};
-ghost use Rattle.cx_mean.specs.Tasks.{call_of};
+ghost use Rattle.cx_mean.specs.Seen.{Table, body_of, caller_of, checks_of, class_of, function_of, table_of, program_of};
 ghost use Rattle.cx_mean.specs.CallParts.{function_with};
 
 use crate::machine::Machine;
 use crate::program::{CallerChecks, Class, Function};
-use crate::task::Call;
 use cx_code::Kind;
 use cx_core::{Body, Specifier};
 use cx_plain_state::{Halt, State, undefined};
 
 /// Whether the depth of calls counts a function with this body.
 pub(crate) fn is_counted(body: &Body) -> bool
-    ensures { (n : Numbers) → result ≡ is_counted (body_of n body.now) }
+    ensures { (n : Table) → result ≡ is_counted (body_of n body.now) }
 {
     !matches!(
         body,
@@ -39,7 +36,7 @@ impl<'p> Machine<'p> {
         state: &State<'p>,
         function: u32,
     ) -> Result<&'p Function, Halt>
-        ensures { let p = self.now.program.now in Ran (λ f. function_of (numbers_of p) f.now) (function_with (program_of p) function (state_of state.now)) result (state_of state.now) }
+        ensures { let p = self.now.program.now in Ran (λ f. function_of (table_of p) f.now) (function_with (program_of p) function (state_of state.now)) result (state_of state.now) }
     {
         match self.function_at(function) {
             Some(f) => Ok(f),
@@ -49,7 +46,7 @@ impl<'p> Machine<'p> {
 
     /// The class with a number.
     pub(crate) fn class_with(&self, state: &State<'p>, class: u32) -> Result<&'p Class, Halt>
-        ensures { let p = self.now.program.now in Ran (λ c. class_of (numbers_of p) c.now) (class_at (program_of p) no_calls class (state_of state.now)) result (state_of state.now) }
+        ensures { let p = self.now.program.now in Ran (λ c. class_of c.now) (class_at (program_of p) no_calls class (state_of state.now)) result (state_of state.now) }
     {
         match self.class_at(class) {
             Some(c) => Ok(c),
@@ -67,9 +64,9 @@ impl<'p> Machine<'p> {
         }
     }
 
-    /// What the unit whose code evaluates a call checks of it, if the program says it.
+    /// What a unit checks of a function as Caller, if the program says it.
     fn checks_by_caller(&self, unit: u32, function: u32) -> Option<&'p CallerChecks>
-        ensures { let p = self.now.program.now in or_no_checks (program_of p) no_calls (option_map (λ c. caller_of (numbers_of p) c.now) result) ≡ checks_at (program_of p) no_calls function (slice_get (program_of p).callers unit) }
+        ensures { let p = self.now.program.now in or_no_checks (program_of p) no_calls (option_map (λ c. caller_of (table_of p) c.now) result) ≡ checks_at (program_of p) no_calls function (slice_get (program_of p).callers unit) }
     {
         self.program
             .callers
@@ -78,20 +75,20 @@ impl<'p> Machine<'p> {
     }
 
     /// What the caller checks before a body.
-    pub(crate) fn caller_preconditions(&self, call: &Call<'p>) -> &'p [Specifier]
-        ensures { let p = self.now.program.now in checks_of (numbers_of p) result.now ≡ (caller_checks (program_of p) no_calls (call_of call.now)).preconditions }
+    pub(crate) fn caller_preconditions(&self, unit: u32, function: u32) -> &'p [Specifier]
+        ensures { let p = self.now.program.now in checks_of (table_of p) result.now ≡ (caller_checks (program_of p) no_calls unit function).preconditions }
     {
-        match self.checks_by_caller(call.unit, call.function) {
+        match self.checks_by_caller(unit, function) {
             Some(checks) => &checks.preconditions,
             None => &[],
         }
     }
 
     /// What the caller checks after a body.
-    pub(crate) fn caller_postconditions(&self, call: &Call<'p>) -> &'p [Specifier]
-        ensures { let p = self.now.program.now in checks_of (numbers_of p) result.now ≡ (caller_checks (program_of p) no_calls (call_of call.now)).postconditions }
+    pub(crate) fn caller_postconditions(&self, unit: u32, function: u32) -> &'p [Specifier]
+        ensures { let p = self.now.program.now in checks_of (table_of p) result.now ≡ (caller_checks (program_of p) no_calls unit function).postconditions }
     {
-        match self.checks_by_caller(call.unit, call.function) {
+        match self.checks_by_caller(unit, function) {
             Some(checks) => &checks.postconditions,
             None => &[],
         }

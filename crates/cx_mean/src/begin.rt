@@ -1,7 +1,7 @@
 //! The state in which a run has not begun.
 ghost use Rattle.std.specs.Prelude.{◌≡◌, [], ◌∷◌, ◌++◌, ◌+◌, suc, length, map, IfOk, OnOk, Some};
 ghost use Rattle.cx_core.specs.Meaning.{start, globals_from};
-ghost use Rattle.cx_core.specs.Numbered.{constant};
+ghost use Rattle.cx_core.specs.View.{constant};
 ghost use Rattle.cx_core.specs.Operators as operators;
 ghost use Rattle.cx_plain_state.specs.Seen.{state_of, value_of, evaluation_of};
 ghost use Rattle.cx_mean.specs.Seen.{program_of};

@@ -1,13 +1,14 @@
 //! What predicates and the parts of calls give.
 ghost use Rattle.std.specs.Prelude.{◌≡◌, Some, IfOk, OnOk};
 ghost use Rattle.std.specs.Option.{option_map};
-ghost use Rattle.cx_core.specs.Meaning.{value_given};
+ghost use Rattle.cx_core.specs.Calls.{value_given};
 ghost use Rattle.cx_plain.specs.Step.{no_calls, step_postconditions, step_posted, step_given, step_thrown};
 ghost use Rattle.cx_plain.specs.Task as tasks;
 ghost use Rattle.cx_plain_state.specs.Ran.{Ran};
 ghost use Rattle.cx_core.specs.Program.{Program};
 ghost use Rattle.cx_plain_state.specs.Seen.{address_of, exception_of, state_of, value_of};
-ghost use Rattle.cx_mean.specs.Seen.{numbers_of, program_of, result_kind_of, function_of};
+ghost use Rattle.cx_core.specs.View.{result_of};
+ghost use Rattle.cx_mean.specs.Seen.{table_of, program_of, function_of};
 ghost use Rattle.cx_mean.specs.Tasks.{level_of, call_of, task_of};
 ghost use Rattle.cx_mean.specs.Frames.{completion_of, given_of, call_frame_of, waiting_of};
 ghost use Rattle.cx_mean.specs.CallParts.{destruction, place_given, under_result};
@@ -45,7 +46,7 @@ fn value_given<'p>(
     kind: ResultKind,
     completion: Completion<'p>,
 ) -> Result<Value<'p>, Halt>
-    ensures { (p : Program) → Ran value_of (value_given p no_calls (result_kind_of kind) (completion_of completion.entry) (state_of state.now)) result (state_of state.now) }
+    ensures { (p : Program) → Ran value_of (value_given p no_calls (result_of kind) (completion_of completion.entry) (state_of state.now)) result (state_of state.now) }
 {
     match (kind, completion) {
         (_, Completion::Return(v)) => Ok(v),
@@ -68,7 +69,7 @@ fn destruction<'p>(state: &mut State<'p>, name: &'p [u8], a: Address) -> Result<
 impl<'p> Machine<'p> {
     /// The result of the active call is set, which a postcondition names. The frame that goes back is given.
     fn enter_result(&self, state: &mut State<'p>, v: Value<'p>) -> Result<Waiting<'p>, AllocError>
-        ensures frame { IfOk result (λ w. waiting_of (numbers_of self.now.program.now) w ≡ tasks.within (state_of state.old).frame) }
+        ensures frame { IfOk result (λ w. waiting_of (table_of self.now.program.now) w ≡ tasks.within (state_of state.old).frame) }
         ensures entered { OnOk result (state_of state.new ≡ record (state_of state.old) { frame = record ((state_of state.old).frame) { result = Some (value_of v.entry) } }) }
     {
         let unit = state.frame.unit;
@@ -96,7 +97,7 @@ impl<'p> Machine<'p> {
         posted: Waiting<'p>,
         v: Value<'p>,
     ) -> Result<Next<'p>, Halt>
-        ensures { let p = self.now.program.now in let n = numbers_of p in Steps p (under_result (task_of n task.entry) (waiting_of n posted.entry) (value_of v.entry)) result state.old state.new }
+        ensures { let p = self.now.program.now in let n = table_of p in Steps p (under_result (task_of n task.entry) (waiting_of n posted.entry) (value_of v.entry)) result state.old state.new }
     {
         let within = self.enter_result(state, v)?;
         self.under_two(state, task, within, posted)
@@ -112,11 +113,13 @@ impl<'p> Machine<'p> {
         c: Call<'p>,
         v: Value<'p>,
     ) -> Result<Next<'p>, Halt>
-        ensures { let p = self.now.program.now in let n = numbers_of p in Steps p (step_postconditions (program_of p) (level_of level) (result_kind_of kind) (function_of n f.now) (call_of c.entry) (value_of v.entry)) result state.old state.new }
+        ensures { let p = self.now.program.now in let n = table_of p in Steps p (step_postconditions (program_of p) (level_of level) (result_of kind) (function_of n f.now) (call_of c.entry) (value_of v.entry)) result state.old state.new }
     {
         let Call {
             function,
+            caller,
             unit,
+            reports,
             arguments: _,
             result: place,
         } = c;
@@ -124,7 +127,9 @@ impl<'p> Machine<'p> {
         let arguments = Vec::new(self.alloc);
         let call = Call {
             function,
+            caller,
             unit,
+            reports,
             arguments,
             result: None,
         };
@@ -144,7 +149,7 @@ impl<'p> Machine<'p> {
         place: Option<Value<'p>>,
         e: Exception,
     ) -> Result<Next<'p>, Halt>
-        ensures { let p = self.now.program.now in let n = numbers_of p in Steps p (step_posted (program_of p) (level_of level) (result_kind_of kind) (option_map value_of place.entry) (exception_of e)) result state.old state.new }
+        ensures { let p = self.now.program.now in Steps p (step_posted (program_of p) (level_of level) (result_of kind) (option_map value_of place.entry) (exception_of e)) result state.old state.new }
     {
         match kind {
             ResultKind::ClassObject(class) => {
@@ -164,7 +169,7 @@ impl<'p> Machine<'p> {
         frame: CallFrame<'p>,
         given: Given<'p>,
     ) -> Result<Next<'p>, Halt>
-        ensures { let p = self.now.program.now in let n = numbers_of p in Steps p (step_given (program_of p) (call_frame_of n frame.entry) (given_of given.entry)) result state.old state.new }
+        ensures { let p = self.now.program.now in let n = table_of p in Steps p (step_given (program_of p) (call_frame_of n frame.entry) (given_of given.entry)) result state.old state.new }
     {
         match (frame, given) {
             (CallFrame::Verdict(level, assertion, semantic), Given::Truth(holds)) => self.verdict(
@@ -190,7 +195,7 @@ impl<'p> Machine<'p> {
         frame: CallFrame<'p>,
         e: Exception,
     ) -> Result<Next<'p>, Halt>
-        ensures { let p = self.now.program.now in let n = numbers_of p in Steps p (step_thrown (program_of p) (call_frame_of n frame.entry) (exception_of e)) result state.old state.new }
+        ensures { let p = self.now.program.now in let n = table_of p in Steps p (step_thrown (program_of p) (call_frame_of n frame.entry) (exception_of e)) result state.old state.new }
     {
         match frame {
             CallFrame::Verdict(level, assertion, semantic) => {

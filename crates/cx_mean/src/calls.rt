@@ -1,20 +1,23 @@
 //! Calls.
 ghost use Rattle.std.specs.Prelude.{◌≡◌, ◌∷◌, [], IfOk};
 ghost use Rattle.std.specs.Option.{option_map};
-ghost use Rattle.cx_core.specs.Numbered.{stmts_of};
 ghost use Rattle.cx_plain.specs.Task as tasks;
 ghost use Rattle.cx_plain.specs.Step.{step_active, step_calling, step_counted, step_task, this_first};
 ghost use Rattle.cx_plain_state.specs.Seen.{value_of, address_of};
 ghost use Rattle.cx_plain_state.specs.Ran.{values_of};
-ghost use Rattle.cx_mean.specs.Seen.{numbers_of, program_of, args_of, result_kind_of, function_of};
-ghost use Rattle.cx_mean.specs.Tasks.{level_of, call_of, call_task_of};
+ghost use Rattle.cx_core.specs.View.{result_of};
+ghost use Rattle.cx_mean.specs.Seen.{stmts_of, table_of, program_of, args_of, function_of};
+ghost use Rattle.cx_mean.specs.Tasks.{level_of, call_of, callee_of, call_task_of};
 ghost use Rattle.cx_mean.specs.Frames.{frames_of, waiting_of};
 ghost use Rattle.cx_mean.specs.Steps.{Steps};
 
+use crate::acting::reported;
 use crate::machine::Machine;
 use crate::program::Function;
-use crate::task::{Call, CallTask, CheckTask, ExpressionTask, Level, Row, StatementTask, Task};
-use crate::waiting::{ArgumentFrame, CallFrame, FollowingFrame, Next, Waiting};
+use crate::task::{
+    Call, CallTask, Callee, CheckTask, ExpressionTask, Level, Row, StatementTask, Task,
+};
+use crate::waiting::{ArgumentFrame, CallFrame, FollowingFrame, Given, Next, Waiting};
 use cx_code::{Ending, Kind, Party};
 use cx_core::{Argument, ResultKind, Statement};
 use cx_plain_state::{Address, Answer, Halt, State, Value, undefined};
@@ -30,7 +33,7 @@ impl<'p> Machine<'p> {
         depth: u32,
         c: Call<'p>,
     ) -> Result<Next<'p>, Halt>
-        ensures { let p = self.now.program.now in let n = numbers_of p in Steps p (step_calling (program_of p) implicit depth (call_of c.entry)) result state.old state.new }
+        ensures { let p = self.now.program.now in Steps p (step_calling (program_of p) implicit depth (call_of c.entry)) result state.old state.new }
     {
         let Some(implicit) = implicit.checked_sub(1) else {
             return Err(undefined(Kind::Mixed));
@@ -52,7 +55,7 @@ impl<'p> Machine<'p> {
         depth: u32,
         c: Call<'p>,
     ) -> Result<Next<'p>, Halt>
-        ensures { let p = self.now.program.now in let n = numbers_of p in Steps p (step_counted (program_of p) depth (call_of c.entry)) result state.old state.new }
+        ensures { let p = self.now.program.now in Steps p (step_counted (program_of p) depth (call_of c.entry)) result state.old state.new }
     {
         let Some(counted) = depth.checked_sub(1) else {
             return Err(Halt::Over(Answer::Ended(Ending::TooDeep)));
@@ -68,10 +71,11 @@ impl<'p> Machine<'p> {
         level: Level,
         c: Call<'p>,
     ) -> Result<Next<'p>, Halt>
-        ensures { let p = self.now.program.now in let n = numbers_of p in Steps p (step_active (program_of p) (level_of level) (call_of c.entry)) result state.old state.new }
+        ensures { let p = self.now.program.now in Steps p (step_active (program_of p) (level_of level) (call_of c.entry)) result state.old state.new }
     {
         state.spend()?;
         let f = self.function_with(state, c.function)?;
+        reported(state, c.reports)?;
         self.enter(state, level, f, c)
     }
 
@@ -82,7 +86,7 @@ impl<'p> Machine<'p> {
         scope: Waiting<'p>,
         call: Waiting<'p>,
     ) -> Result<Vec<Waiting<'p>>, AllocError>
-        ensures { let n = numbers_of self.now.program.now in IfOk result (λ all. frames_of n all.items ≡ this_first (option_map address_of this) (waiting_of n call.entry ∷ waiting_of n scope.entry ∷ [])) }
+        ensures { let n = table_of self.now.program.now in IfOk result (λ all. frames_of n all.items ≡ this_first (option_map address_of this) (waiting_of n call.entry ∷ waiting_of n scope.entry ∷ [])) }
     {
         let frames = vec![in self.alloc; scope, call]?;
         match this {
@@ -99,15 +103,15 @@ impl<'p> Machine<'p> {
         &self,
         state: &mut State<'p>,
         level: Level,
-        function: u32,
+        callee: Callee<'p>,
         this: Option<Address>,
         a: &'p [Argument],
         place: Option<Value<'p>>,
     ) -> Result<Next<'p>, Halt>
-        ensures { let p = self.now.program.now in let n = numbers_of p in Steps p (step_task (program_of p) (tasks.call_of (level_of level) function (option_map address_of this) (args_of n a.now) (option_map value_of place.entry))) result state.old state.new }
+        ensures { let p = self.now.program.now in Steps p (step_task (program_of p) (tasks.call_of (level_of level) (callee_of callee.entry) (option_map address_of this) (args_of a.now) (option_map value_of place.entry))) result state.old state.new }
     {
         let scope = self.enter_scope(state, level);
-        let call = Waiting::Argument(ArgumentFrame::CallWith(level, function, place));
+        let call = Waiting::Argument(ArgumentFrame::CallWith(level, callee, place));
         let frames = self.argument_frames(this, scope, call)?;
         let task = Task::Expression(ExpressionTask::Arguments(level, a));
         self.under_all(state, task, frames)
@@ -118,20 +122,20 @@ impl<'p> Machine<'p> {
         &self,
         state: &mut State<'p>,
         level: Level,
-        function: u32,
+        callee: Callee<'p>,
         a: &'p [Argument],
         object: u64,
     ) -> Result<Next<'p>, Halt>
-        ensures { let p = self.now.program.now in let n = numbers_of p in Steps p (step_task (program_of p) (tasks.call_into (level_of level) function (args_of n a.now) object)) result state.old state.new }
+        ensures { let p = self.now.program.now in Steps p (step_task (program_of p) (tasks.call_into (level_of level) (callee_of callee.entry) (args_of a.now) object)) result state.old state.new }
     {
         let scope = self.enter_scope(state, level);
-        let call = Waiting::Argument(ArgumentFrame::CallIntoObject(level, function, object));
+        let call = Waiting::Argument(ArgumentFrame::CallIntoObject(level, callee, object));
         let task = Task::Expression(ExpressionTask::Arguments(level, a));
         self.under_two(state, task, call, scope)
     }
 
-    /// A constructor or destructor is called on an object.
-    pub(crate) fn call_on(
+    /// A constructor is called on an object.
+    pub(crate) fn construct_at(
         &self,
         state: &mut State<'p>,
         level: Level,
@@ -139,11 +143,11 @@ impl<'p> Machine<'p> {
         a: Address,
         arguments: Vec<Value<'p>>,
     ) -> Result<Next<'p>, Halt>
-        ensures { let p = self.now.program.now in let n = numbers_of p in Steps p (step_task (program_of p) (tasks.call_on (level_of level) function (address_of a) (values_of arguments.entry.items))) result state.old state.new }
+        ensures { let p = self.now.program.now in Steps p (step_task (program_of p) (tasks.construct_at (level_of level) function (address_of a) (values_of arguments.entry.items))) result state.old state.new }
     {
         let mut arguments = arguments;
         arguments.insert(0, Value::Address(a))?;
-        let task = self.call_here(state, level, function, arguments, None);
+        let task = self.call_here(state, level, function, true, arguments, None);
         self.under(state, task, Waiting::Following(FollowingFrame::Discard))
     }
 
@@ -155,14 +159,31 @@ impl<'p> Machine<'p> {
         f: &'p Function,
         c: Call<'p>,
     ) -> Result<Next<'p>, Halt>
-        ensures { let p = self.now.program.now in let n = numbers_of p in Steps p (step_task (program_of p) (tasks.before (level_of level) (function_of n f.now) (call_of c.entry))) result state.old state.new }
+        ensures { let p = self.now.program.now in let n = table_of p in Steps p (step_task (program_of p) (tasks.before (level_of level) (function_of n f.now) (call_of c.entry))) result state.old state.new }
     {
-        let callers = Row::Specifiers(self.caller_preconditions(&c));
-        let task = Task::Check(CheckTask::Checks(level, Party::Caller, callers));
-        let definers = Row::Specifiers(&f.preconditions);
-        let rest = self.then(Task::Check(CheckTask::Checks(level, Party::Definer, definers)))?;
-        let within = self.enter_unit(state, c.unit)?;
-        self.under_two(state, task, within, rest)
+        let row = Row::Specifiers(&f.preconditions);
+        let rest = self.then(Task::Check(CheckTask::Checks(level, Party::Definer, row)))?;
+        self.under(state, Task::Call(CallTask::CallerBefore(level, c)), rest)
+    }
+
+    /// The checks of the Caller before a body, if there is one.
+    pub(crate) fn caller_before(
+        &self,
+        state: &mut State<'p>,
+        level: Level,
+        c: Call<'p>,
+    ) -> Result<Next<'p>, Halt>
+        ensures { let p = self.now.program.now in Steps p (step_task (program_of p) (tasks.caller_before (level_of level) (call_of c.entry))) result state.old state.new }
+    {
+        match c.caller {
+            None => Ok(Next::Give(Given::Nothing)),
+            Some(unit) => {
+                let row = Row::Specifiers(self.caller_preconditions(unit, c.function));
+                let task = Task::Check(CheckTask::Checks(level, Party::Caller, row));
+                let within = self.enter_unit(state, unit)?;
+                self.under(state, task, within)
+            }
+        }
     }
 
     /// The checks after a body.
@@ -173,7 +194,7 @@ impl<'p> Machine<'p> {
         f: &'p Function,
         c: Call<'p>,
     ) -> Result<Next<'p>, Halt>
-        ensures { let p = self.now.program.now in let n = numbers_of p in Steps p (step_task (program_of p) (tasks.after (level_of level) (function_of n f.now) (call_of c.entry))) result state.old state.new }
+        ensures { let p = self.now.program.now in let n = table_of p in Steps p (step_task (program_of p) (tasks.after (level_of level) (function_of n f.now) (call_of c.entry))) result state.old state.new }
     {
         let row = Row::Specifiers(&f.postconditions);
         let task = Task::Check(CheckTask::Checks(level, Party::Definer, row));
@@ -181,19 +202,24 @@ impl<'p> Machine<'p> {
         self.under(state, task, rest)
     }
 
-    /// The checks of the caller after a body.
+    /// The checks of the Caller after a body, if there is one.
     pub(crate) fn caller_after(
         &self,
         state: &mut State<'p>,
         level: Level,
         c: Call<'p>,
     ) -> Result<Next<'p>, Halt>
-        ensures { let p = self.now.program.now in let n = numbers_of p in Steps p (step_task (program_of p) (tasks.caller_after (level_of level) (call_of c.entry))) result state.old state.new }
+        ensures { let p = self.now.program.now in Steps p (step_task (program_of p) (tasks.caller_after (level_of level) (call_of c.entry))) result state.old state.new }
     {
-        let row = Row::Specifiers(self.caller_postconditions(&c));
-        let task = Task::Check(CheckTask::Checks(level, Party::Caller, row));
-        let within = self.enter_unit(state, c.unit)?;
-        self.under(state, task, within)
+        match c.caller {
+            None => Ok(Next::Give(Given::Nothing)),
+            Some(unit) => {
+                let row = Row::Specifiers(self.caller_postconditions(unit, c.function));
+                let task = Task::Check(CheckTask::Checks(level, Party::Caller, row));
+                let within = self.enter_unit(state, unit)?;
+                self.under(state, task, within)
+            }
+        }
     }
 
     /// The body of a function.
@@ -204,7 +230,7 @@ impl<'p> Machine<'p> {
         kind: ResultKind,
         b: &'p [Statement],
     ) -> Result<Next<'p>, Halt>
-        ensures { let p = self.now.program.now in let n = numbers_of p in Steps p (step_task (program_of p) (tasks.body (level_of level) (result_kind_of kind) (stmts_of n b.now))) result state.old state.new }
+        ensures { let p = self.now.program.now in let n = table_of p in Steps p (step_task (program_of p) (tasks.body (level_of level) (result_of kind) (stmts_of n b.now))) result state.old state.new }
     {
         let statements = self.statement_of(StatementTask::Statements(level, b))?;
         let scope = self.enter_scope(state, level);
@@ -218,18 +244,23 @@ impl<'p> Machine<'p> {
         state: &mut State<'p>,
         task: CallTask<'p>,
     ) -> Result<Next<'p>, Halt>
-        ensures { let p = self.now.program.now in let n = numbers_of p in Steps p (step_task (program_of p) (call_task_of n task.entry)) result state.old state.new }
+        ensures { let p = self.now.program.now in let n = table_of p in Steps p (step_task (program_of p) (call_task_of n task.entry)) result state.old state.new }
     {
         match task {
             CallTask::Calling(implicit, depth, c) => self.calling(state, implicit, depth, c),
             CallTask::Counted(depth, c) => self.counted(state, depth, c),
-            CallTask::CallOf(level, f, this, a, place) => self.call_of(
-                state, level, f, this, a, place,
+            CallTask::CallOf(level, callee, this, a, place) => self.call_of(
+                state, level, callee, this, a, place,
             ),
-            CallTask::CallInto(level, f, a, object) => self.call_into(state, level, f, a, object),
-            CallTask::CallOn(level, f, a, arguments) => self.call_on(state, level, f, a, arguments),
+            CallTask::CallInto(level, callee, a, object) => self.call_into(
+                state, level, callee, a, object,
+            ),
+            CallTask::ConstructAt(level, f, a, arguments) => self.construct_at(
+                state, level, f, a, arguments,
+            ),
             CallTask::Before(level, f, c) => self.before(state, level, f, c),
             CallTask::After(level, f, c) => self.after(state, level, f, c),
+            CallTask::CallerBefore(level, c) => self.caller_before(state, level, c),
             CallTask::CallerAfter(level, c) => self.caller_after(state, level, c),
             CallTask::Body(level, kind, b) => self.body(state, level, kind, b),
         }

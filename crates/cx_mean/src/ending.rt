@@ -2,11 +2,11 @@
 ghost use Rattle.std.specs.Prelude.{◌≡◌, [], ◌++◌, map, reverse, IfOk, OnOk};
 ghost use Rattle.cx_plain.specs.Step.{step_task, step_ending, step_ending_each, step_destroying_each};
 ghost use Rattle.cx_plain_state.specs.Seen.{living_of, livings_of, address_of};
-ghost use Rattle.cx_mean.specs.Seen.{numbers_of, program_of, class_of, fields_of};
+ghost use Rattle.cx_mean.specs.Seen.{table_of, program_of, class_of, fields_of};
 ghost use Rattle.cx_mean.specs.Tasks.{level_of, class_field_of};
 ghost use Rattle.cx_mean.specs.Parts.{object_gone, class_object_gone, first_ending, destroyed_by, first_destroying, fields_destroyed_by};
 ghost use Rattle.cx_mean.specs.Steps.{Steps};
-ghost use Rattle.cx_core.specs.Numbered.{object_type};
+ghost use Rattle.cx_core.specs.View.{object_type};
 ghost use Rattle.cx_core.specs.Leaving.{class_fields, and_class_field};
 ghost use Rattle.cx_plain.specs.Task as tasks;
 
@@ -14,18 +14,18 @@ use crate::argument_frame::end_lifetime;
 use crate::machine::Machine;
 use crate::operation::place_in;
 use crate::program::Class;
-use crate::task::{CallTask, ClassField, Level, ObjectTask, Task};
-use crate::waiting::{ArgumentFrame, Given, Next, Waiting};
+use crate::task::{ClassField, Level, ObjectTask, Task};
+use crate::waiting::{ArgumentFrame, FollowingFrame, Given, Next, Waiting};
 use cx_code::Kind;
 use cx_core::Field;
-use cx_plain_state::{Address, Halt, Living, ObjectType, State, undefined};
+use cx_plain_state::{Address, Halt, Living, ObjectType, State, Value, undefined};
 use std::alloc::AllocError;
 
 #[tactic(auto, unfolding(cx_core::specs::Outcome::either, cx_core::specs::Outcome::gives, cx_core::specs::Outcome::ends, cx_core::specs::Outcome::throws))]
 impl<'p> Machine<'p> {
     /// The lifetime of a whole object ends, and nothing is given.
     fn end_whole(&self, state: &mut State<'p>, object: u64) -> Result<Next<'p>, Halt>
-        ensures { let p = self.now.program.now in let n = numbers_of p in Steps p (object_gone object) result state.old state.new }
+        ensures { let p = self.now.program.now in Steps p (object_gone object) result state.old state.new }
     {
         end_lifetime(state, object)?;
         Ok(Next::Give(Given::Nothing))
@@ -39,7 +39,7 @@ impl<'p> Machine<'p> {
         object: u64,
         class: u32,
     ) -> Result<Next<'p>, Halt>
-        ensures { let p = self.now.program.now in let n = numbers_of p in Steps p (class_object_gone (level_of level) object class) result state.now state.now }
+        ensures { let p = self.now.program.now in Steps p (class_object_gone (level_of level) object class) result state.now state.now }
     {
         let a = Address { object, leaf: 0 };
         let task = Task::Object(ObjectTask::Destroying(level, class, a));
@@ -57,14 +57,15 @@ impl<'p> Machine<'p> {
         level: Level,
         living: Living,
     ) -> Result<Next<'p>, Halt>
-        ensures { let p = self.now.program.now in let n = numbers_of p in Steps p (step_ending (program_of p) (level_of level) (living_of living)) result state.old state.new }
+        ensures { let p = self.now.program.now in Steps p (step_ending (program_of p) (level_of level) (living_of living)) result state.old state.new }
     {
         match living {
             Living::Whole(object, ObjectType::Class(class)) => self.end_class_object(
                 state, level, object, class,
             ),
             Living::Whole(object, ObjectType::Scalar(_)) => self.end_whole(state, object),
-            Living::Whole(object, ObjectType::Pointer) => self.end_whole(state, object),
+            Living::Whole(object, ObjectType::Pointer(_)) => self.end_whole(state, object),
+            Living::Whole(object, ObjectType::FunctionPointer(_)) => self.end_whole(state, object),
             Living::Field(a, class) => self.doing(
                 state,
                 Task::Object(ObjectTask::Destroying(level, class, a)),
@@ -80,7 +81,7 @@ impl<'p> Machine<'p> {
         first: Living,
         living: Vec<Living>,
     ) -> Result<Next<'p>, Halt>
-        ensures { let p = self.now.program.now in let n = numbers_of p in Steps p (first_ending (level_of level) (living_of first) (livings_of living)) result state.now state.now }
+        ensures { let p = self.now.program.now in Steps p (first_ending (level_of level) (living_of first) (livings_of living)) result state.now state.now }
     {
         let rest = self.then_next(Task::Object(ObjectTask::EndingEach(level, living)))?;
         self.under(state, Task::Object(ObjectTask::Ending(level, first)), rest)
@@ -93,7 +94,7 @@ impl<'p> Machine<'p> {
         level: Level,
         mut living: Vec<Living>,
     ) -> Result<Next<'p>, Halt>
-        ensures { let p = self.now.program.now in let n = numbers_of p in Steps p (step_ending_each (program_of p) (level_of level) (livings_of living)) result state.now state.now }
+        ensures { let p = self.now.program.now in Steps p (step_ending_each (program_of p) (level_of level) (livings_of living)) result state.now state.now }
     {
         if living.is_empty() {
             return Ok(Next::Give(Given::Nothing));
@@ -110,11 +111,12 @@ impl<'p> Machine<'p> {
         class: &Class,
         a: Address,
     ) -> Result<Next<'p>, Halt>
-        ensures { let p = self.now.program.now in let n = numbers_of p in Steps p (destroyed_by (level_of level) (class_of n class.now) (address_of a)) result state.now state.now }
+        ensures { let p = self.now.program.now in Steps p (destroyed_by (level_of level) (class_of class.now) (address_of a)) result state.now state.now }
     {
-        let arguments = Vec::new(self.alloc);
-        let task = CallTask::CallOn(level, class.definition.destructor, a, arguments);
-        self.doing(state, Task::Call(task))
+        let arguments = vec![in self.alloc; Value::Address(a)]?;
+        let destructor = class.definition.destructor;
+        let task = self.call_here(state, level, destructor, false, arguments, None);
+        self.under(state, task, Waiting::Following(FollowingFrame::Discard))
     }
 
     /// The object of a class at a place is destroyed.
@@ -125,7 +127,7 @@ impl<'p> Machine<'p> {
         class: u32,
         a: Address,
     ) -> Result<Next<'p>, Halt>
-        ensures { let p = self.now.program.now in let n = numbers_of p in Steps p (step_task (program_of p) (tasks.destroying (level_of level) class (address_of a))) result state.now state.now }
+        ensures { let p = self.now.program.now in Steps p (step_task (program_of p) (tasks.destroying (level_of level) class (address_of a))) result state.now state.now }
     {
         match self.class_at(class) {
             Some(definition) => self.destroy_by(state, level, definition, a),
@@ -142,7 +144,7 @@ impl<'p> Machine<'p> {
         first: ClassField,
         fields: Vec<ClassField>,
     ) -> Result<Next<'p>, Halt>
-        ensures { let p = self.now.program.now in let n = numbers_of p in Steps p (first_destroying (level_of level) (address_of a) (class_field_of first) (reverse (map class_field_of fields.items))) result state.now state.now }
+        ensures { let p = self.now.program.now in Steps p (first_destroying (level_of level) (address_of a) (class_field_of first) (reverse (map class_field_of fields.items))) result state.now state.now }
     {
         let place = place_in(a, first.leaf)?;
         let rest = self.then_next(Task::Object(ObjectTask::DestroyingEach(level, a, fields)))?;
@@ -158,7 +160,7 @@ impl<'p> Machine<'p> {
         a: Address,
         mut fields: Vec<ClassField>,
     ) -> Result<Next<'p>, Halt>
-        ensures { let p = self.now.program.now in let n = numbers_of p in Steps p (step_destroying_each (program_of p) (level_of level) (address_of a) (reverse (map class_field_of fields.items))) result state.now state.now }
+        ensures { let p = self.now.program.now in Steps p (step_destroying_each (program_of p) (level_of level) (address_of a) (reverse (map class_field_of fields.items))) result state.now state.now }
     {
         match fields.pop() {
             Some(first) => self.destroying_first(state, level, a, first, fields),
@@ -169,7 +171,7 @@ impl<'p> Machine<'p> {
     /// A field is added to others, where it is a class object.
     #[tactic(auto)]
     fn add_class_field(&self, found: &mut Vec<ClassField>, field: &Field) -> Result<(), AllocError>
-        ensures { OnOk result (map class_field_of found.new.items ≡ map class_field_of found.old.items ++ and_class_field field.now.leaf (object_type (numbers_of self.now.program.now) field.now.of) []) }
+        ensures { OnOk result (map class_field_of found.new.items ≡ map class_field_of found.old.items ++ and_class_field field.now.leaf (object_type field.now.of) []) }
     {
         match self.object_type(field.of) {
             ObjectType::Class(class) => {
@@ -179,7 +181,9 @@ impl<'p> Machine<'p> {
                 })?;
                 Ok(())
             }
-            ObjectType::Scalar(_) | ObjectType::Pointer => Ok(()),
+            ObjectType::Scalar(_) | ObjectType::Pointer(_) | ObjectType::FunctionPointer(_) => Ok(
+                (),
+            ),
         }
     }
 
@@ -190,7 +194,7 @@ impl<'p> Machine<'p> {
         found: &mut Vec<ClassField>,
         fields: &[Field],
     ) -> Result<(), AllocError>
-        ensures { OnOk result (map class_field_of found.new.items ≡ map class_field_of found.old.items ++ class_fields (fields_of (numbers_of self.now.program.now) fields.now)) }
+        ensures { OnOk result (map class_field_of found.new.items ≡ map class_field_of found.old.items ++ class_fields (fields_of fields.now)) }
     {
         match fields.split_first() {
             None => Ok(()),
@@ -204,7 +208,7 @@ impl<'p> Machine<'p> {
     /// The fields that are class objects, in order.
     #[tactic(auto)]
     fn class_fields(&self, fields: &[Field]) -> Result<Vec<ClassField>, AllocError>
-        ensures { IfOk result (λ found. map class_field_of found.items ≡ class_fields (fields_of (numbers_of self.now.program.now) fields.now)) }
+        ensures { IfOk result (λ found. map class_field_of found.items ≡ class_fields (fields_of fields.now)) }
     {
         let mut found = Vec::new(self.alloc);
         self.add_class_fields(&mut found, fields)?;
@@ -219,7 +223,7 @@ impl<'p> Machine<'p> {
         class: &Class,
         a: Address,
     ) -> Result<Next<'p>, Halt>
-        ensures { let p = self.now.program.now in let n = numbers_of p in Steps p (fields_destroyed_by (level_of level) (class_of n class.now) (address_of a)) result state.now state.now }
+        ensures { let p = self.now.program.now in Steps p (fields_destroyed_by (level_of level) (class_of class.now) (address_of a)) result state.now state.now }
     {
         let fields = self.class_fields(class.definition.fields.items())?;
         self.doing(
@@ -236,7 +240,7 @@ impl<'p> Machine<'p> {
         class: u32,
         a: Address,
     ) -> Result<Next<'p>, Halt>
-        ensures { let p = self.now.program.now in let n = numbers_of p in Steps p (step_task (program_of p) (tasks.destroying_fields (level_of level) class (address_of a))) result state.now state.now }
+        ensures { let p = self.now.program.now in Steps p (step_task (program_of p) (tasks.destroying_fields (level_of level) class (address_of a))) result state.now state.now }
     {
         match self.class_at(class) {
             Some(definition) => self.destroy_fields_by(state, level, definition, a),

@@ -1,19 +1,21 @@
 //! Expressions, and the operands of their operators.
 ghost use Rattle.std.specs.Prelude.{[], ◌∷◌, None};
-ghost use Rattle.cx_core.specs.Numbered.{expr_of, operand_of, init_of, object_type};
+ghost use Rattle.cx_core.specs.View.{expr_of, operand_of, init_of, object_type, result_of};
 ghost use Rattle.cx_plain.specs.Task as tasks;
 ghost use Rattle.cx_plain_state.specs.Ran.{Ran};
 ghost use Rattle.cx_plain_state.specs.Seen.{state_of};
 ghost use Rattle.cx_mean.specs.Frames.{next_of, operand_frame_of, operation_of};
 ghost use Rattle.cx_mean.specs.Parts.{object_call, function_called};
 ghost use Rattle.cx_plain.specs.Step.{doing, step_expression, step_call};
-ghost use Rattle.cx_mean.specs.Seen.{numbers_of, program_of, args_of, result_kind_of};
-ghost use Rattle.cx_mean.specs.Tasks.{level_of};
+ghost use Rattle.cx_mean.specs.Seen.{table_of, program_of, args_of};
+ghost use Rattle.cx_mean.specs.Tasks.{callee_of, level_of};
 ghost use Rattle.cx_mean.specs.Steps.{Steps};
 
-use crate::leaf::{exception_object, global, literal, result_name, valued, variable};
+use crate::leaf::{
+    exception_object, function_name, global, literal, result_name, valued, variable,
+};
 use crate::machine::Machine;
-use crate::task::{CallTask, ExpressionTask, Keeper, Level, ObjectTask, Task};
+use crate::task::{CallTask, Callee, ExpressionTask, Keeper, Level, ObjectTask, Task};
 use crate::waiting::{ArgumentFrame, Next, OperandFrame, Operation, Waiting};
 use cx_code::Kind;
 use cx_core::{Argument, Expression, Initializer, Operand, ResultKind};
@@ -30,7 +32,7 @@ impl<'p> Machine<'p> {
         a: &'p Operand,
         frame: OperandFrame<'p>,
     ) -> Result<Next<'p>, Halt>
-        ensures { let n = numbers_of self.now.program.now in Ran (next_of n) (doing (tasks.used (level_of level) (operand_of n a.now)) (operand_frame_of n frame.entry ∷ []) (state_of state.now)) result (state_of state.now) }
+        ensures { let n = table_of self.now.program.now in Ran (next_of n) (doing (tasks.used (level_of level) (operand_of a.now)) (operand_frame_of frame.entry ∷ []) (state_of state.now)) result (state_of state.now) }
     {
         let task = Task::Expression(ExpressionTask::Used(level, a));
         self.under(state, task, Waiting::Operand(frame))
@@ -44,7 +46,7 @@ impl<'p> Machine<'p> {
         e: &'p Expression,
         frame: OperandFrame<'p>,
     ) -> Result<Next<'p>, Halt>
-        ensures { let n = numbers_of self.now.program.now in Ran (next_of n) (doing (tasks.expression (level_of level) (expr_of n e.now)) (operand_frame_of n frame.entry ∷ []) (state_of state.now)) result (state_of state.now) }
+        ensures { let n = table_of self.now.program.now in Ran (next_of n) (doing (tasks.expression (level_of level) (expr_of e.now)) (operand_frame_of frame.entry ∷ []) (state_of state.now)) result (state_of state.now) }
     {
         let task = Task::Expression(ExpressionTask::Expression(level, e));
         self.under(state, task, Waiting::Operand(frame))
@@ -58,7 +60,7 @@ impl<'p> Machine<'p> {
         a: &'p Operand,
         frame: OperandFrame<'p>,
     ) -> Result<Next<'p>, Halt>
-        ensures { let n = numbers_of self.now.program.now in Ran (next_of n) (doing (tasks.used_truth (level_of level) (operand_of n a.now)) (operand_frame_of n frame.entry ∷ []) (state_of state.now)) result (state_of state.now) }
+        ensures { let n = table_of self.now.program.now in Ran (next_of n) (doing (tasks.used_truth (level_of level) (operand_of a.now)) (operand_frame_of frame.entry ∷ []) (state_of state.now)) result (state_of state.now) }
     {
         let task = Task::Expression(ExpressionTask::UsedTruth(level, a));
         self.under(state, task, Waiting::Operand(frame))
@@ -72,7 +74,7 @@ impl<'p> Machine<'p> {
         a: &'p Operand,
         operation: Operation<'p>,
     ) -> Result<Next<'p>, Halt>
-        ensures { let n = numbers_of self.now.program.now in Ran (next_of n) (doing (tasks.used (level_of level) (operand_of n a.now)) (tasks.operate (operation_of operation.entry) ∷ []) (state_of state.now)) result (state_of state.now) }
+        ensures { let n = table_of self.now.program.now in Ran (next_of n) (doing (tasks.used (level_of level) (operand_of a.now)) (tasks.operate (operation_of operation.entry) ∷ []) (state_of state.now)) result (state_of state.now) }
     {
         self.used_under(state, level, a, OperandFrame::Operate(operation))
     }
@@ -85,7 +87,7 @@ impl<'p> Machine<'p> {
         e: &'p Expression,
         operation: Operation<'p>,
     ) -> Result<Next<'p>, Halt>
-        ensures { let n = numbers_of self.now.program.now in Ran (next_of n) (doing (tasks.expression (level_of level) (expr_of n e.now)) (tasks.operate (operation_of operation.entry) ∷ []) (state_of state.now)) result (state_of state.now) }
+        ensures { let n = table_of self.now.program.now in Ran (next_of n) (doing (tasks.expression (level_of level) (expr_of e.now)) (tasks.operate (operation_of operation.entry) ∷ []) (state_of state.now)) result (state_of state.now) }
     {
         self.evaluated_under(state, level, e, OperandFrame::Operate(operation))
     }
@@ -98,7 +100,7 @@ impl<'p> Machine<'p> {
         of: ValueType,
         i: &'p Initializer,
     ) -> Result<Next<'p>, Halt>
-        ensures { let n = numbers_of self.now.program.now in Ran (next_of n) (doing (tasks.making (level_of level) tasks.full_expression (object_type n of) None (init_of n i.now)) (tasks.place_of_object ∷ []) (state_of state.now)) result (state_of state.now) }
+        ensures { let n = table_of self.now.program.now in Ran (next_of n) (doing (tasks.making (level_of level) tasks.full_expression (object_type of) None (init_of i.now)) (tasks.place_of_object ∷ []) (state_of state.now)) result (state_of state.now) }
     {
         let of = self.object_type(of);
         let task = Task::Object(ObjectTask::Making(level, Keeper::FullExpression, of, None, i));
@@ -112,13 +114,14 @@ impl<'p> Machine<'p> {
         level: Level,
         e: &'p Expression,
     ) -> Result<Next<'p>, Halt>
-        ensures { let p = self.now.program.now in let n = numbers_of p in Steps p (step_expression (program_of p) (level_of level) (expr_of n e.now)) result state.old state.new }
+        ensures { let p = self.now.program.now in Steps p (step_expression (program_of p) (level_of level) (expr_of e.now)) result state.old state.new }
     {
         match e {
             Expression::Literal(c) => valued(literal(state, *c)),
             Expression::Variable(slot) => valued(variable(state, *slot)),
             Expression::Global(index) => valued(global(state, *index)),
             Expression::This => valued(variable(state, 0)),
+            Expression::FunctionName(function) => valued(function_name(state, *function)),
             Expression::ResultName => valued(result_name(state)),
             Expression::ExceptionObject => valued(exception_object(state)),
             Expression::Unary(operator, of, a) => {
@@ -131,7 +134,7 @@ impl<'p> Machine<'p> {
             Expression::LogicalAnd(a, b) => {
                 self.truth_under(state, level, a, OperandFrame::Decide(level, false, b))
             }
-            Expression::Puts(text) => valued(state.puts(text.bytes())),
+            Expression::Puts(text) => valued(state.puts_literal(text.bytes())),
             Expression::Getchar => valued(state.getchar()),
             Expression::LogicalOr(a, b) => {
                 self.truth_under(state, level, a, OperandFrame::Decide(level, true, b))
@@ -156,6 +159,11 @@ impl<'p> Machine<'p> {
             Expression::Indirection(a) => self.operand_of(state, level, a, Operation::Indirection),
             Expression::Member(leaf, a) => self.place_of(state, level, a, Operation::Member(*leaf)),
             Expression::Call(function, a) => self.called(state, level, *function, a),
+            Expression::CallThrough(kind, pointer, a) => {
+                let task = Task::Expression(ExpressionTask::Used(level, pointer));
+                let frame = ArgumentFrame::CallThrough(level, *kind, a);
+                self.under(state, task, Waiting::Argument(frame))
+            }
             Expression::Temporary(of, i) => self.temporary(state, level, *of, i),
             Expression::Putchar(a) => self.operand_of(state, level, a, Operation::Putchar),
             Expression::PutsComment(a) => self.place_of(state, level, a, Operation::PutsComment),
@@ -163,18 +171,18 @@ impl<'p> Machine<'p> {
         }
     }
 
-    /// A scalar result object is made, and a function is called with it.
-    fn call_with_object(
+    /// A scalar result object is made, and what is called is called with it.
+    pub(crate) fn call_with_object(
         &self,
         state: &mut State<'p>,
         level: Level,
-        function: u32,
+        callee: Callee<'p>,
         a: &'p [Argument],
     ) -> Result<Next<'p>, Halt>
-        ensures { let p = self.now.program.now in let n = numbers_of p in Steps p (object_call (level_of level) function (args_of n a.now)) result state.old state.new }
+        ensures { let p = self.now.program.now in Steps p (object_call (level_of level) (callee_of callee.entry) (args_of a.now)) result state.old state.new }
     {
         let object = state.make(self.alloc, 1)?;
-        let task = Task::Call(CallTask::CallInto(level, function, a, object));
+        let task = Task::Call(CallTask::CallInto(level, callee, a, object));
         self.under(
             state,
             task,
@@ -191,17 +199,22 @@ impl<'p> Machine<'p> {
         function: u32,
         a: &'p [Argument],
     ) -> Result<Next<'p>, Halt>
-        ensures { let p = self.now.program.now in let n = numbers_of p in Steps p (step_call (program_of p) (level_of level) (result_kind_of kind) function (args_of n a.now)) result state.old state.new }
+        ensures { let p = self.now.program.now in Steps p (step_call (program_of p) (level_of level) (result_of kind) function (args_of a.now)) result state.old state.new }
     {
         match kind {
-            ResultKind::ScalarObject => self.call_with_object(state, level, function, a),
+            ResultKind::ScalarObject => {
+                self.call_with_object(state, level, Callee::ByName(function), a)
+            }
             ResultKind::Void
             | ResultKind::ScalarValue
             | ResultKind::ClassObject(_)
             | ResultKind::Reference
             | ResultKind::ExitStatus => {
-                let task = Task::Call(CallTask::CallOf(level, function, None, a, None));
-                self.doing(state, task)
+                let callee = Callee::ByName(function);
+                self.doing(
+                    state,
+                    Task::Call(CallTask::CallOf(level, callee, None, a, None)),
+                )
             }
         }
     }
@@ -214,7 +227,7 @@ impl<'p> Machine<'p> {
         function: u32,
         a: &'p [Argument],
     ) -> Result<Next<'p>, Halt>
-        ensures { let p = self.now.program.now in let n = numbers_of p in Steps p (function_called (program_of p) (level_of level) function (args_of n a.now)) result state.old state.new }
+        ensures { let p = self.now.program.now in Steps p (function_called (program_of p) (level_of level) function (args_of a.now)) result state.old state.new }
     {
         match self.function_at(function) {
             Some(definition) => self.call(state, level, definition.result, function, a),

@@ -3,7 +3,8 @@ ghost use Rattle.std.specs.Prelude.{◌∷◌};
 ghost use Rattle.cx_plain.specs.Step.{step_field_inits, step_default_field, step_default_fields, step_copying_fields, step_copying_members, step_copying_object};
 ghost use Rattle.cx_plain_state.specs.Ran.{Ran, unit_of};
 ghost use Rattle.cx_plain_state.specs.Seen.{state_of, address_of, type_of};
-ghost use Rattle.cx_mean.specs.Seen.{numbers_of, program_of, class_of, field_of, fields_of, field_init_of, field_inits_of};
+ghost use Rattle.cx_core.specs.View.{field_of, field_init_of};
+ghost use Rattle.cx_mean.specs.Seen.{table_of, program_of, class_of, fields_of, field_inits_of};
 ghost use Rattle.cx_mean.specs.Tasks.{level_of, task_of};
 ghost use Rattle.cx_mean.specs.Parts.{field_started, default_started, copied_leaf, copied_by, this_place_of, leaf_copied};
 ghost use Rattle.cx_mean.specs.Steps.{Steps};
@@ -50,7 +51,7 @@ impl<'p> Machine<'p> {
         task: Task<'p>,
         rest: Task<'p>,
     ) -> Result<Next<'p>, Halt>
-        ensures { let p = self.now.program.now in let n = numbers_of p in Steps p (field_started (level_of level) (address_of place) (type_of of) (task_of n task.entry) (task_of n rest.entry)) result state.old state.new }
+        ensures { let p = self.now.program.now in let n = table_of p in Steps p (field_started (level_of level) (address_of place) (type_of of) (task_of n task.entry) (task_of n rest.entry)) result state.old state.new }
     {
         let rest = self.then_next(rest)?;
         let full = self.enter_full_expression(state, level);
@@ -66,7 +67,7 @@ impl<'p> Machine<'p> {
         f: &'p FieldInitializer,
         rest: &'p [FieldInitializer],
     ) -> Result<Next<'p>, Halt>
-        ensures { let p = self.now.program.now in let n = numbers_of p in Steps p (step_field_inits (program_of p) (level_of level) (field_init_of n f.now ∷ field_inits_of n rest.now)) result state.old state.new }
+        ensures { let p = self.now.program.now in Steps p (step_field_inits (program_of p) (level_of level) (field_init_of f.now ∷ field_inits_of rest.now)) result state.old state.new }
     {
         let this = this_place(state)?;
         let place = place_in(this, f.leaf)?;
@@ -82,7 +83,7 @@ impl<'p> Machine<'p> {
         level: Level,
         fields: &'p [FieldInitializer],
     ) -> Result<Next<'p>, Halt>
-        ensures { let p = self.now.program.now in let n = numbers_of p in Steps p (step_field_inits (program_of p) (level_of level) (field_inits_of n fields.now)) result state.old state.new }
+        ensures { let p = self.now.program.now in Steps p (step_field_inits (program_of p) (level_of level) (field_inits_of fields.now)) result state.old state.new }
     {
         match fields.split_first() {
             None => Ok(Next::Give(Given::Nothing)),
@@ -100,12 +101,12 @@ impl<'p> Machine<'p> {
         constructor: u32,
         fields: &'p [Field],
     ) -> Result<Next<'p>, Halt>
-        ensures { let p = self.now.program.now in let n = numbers_of p in Steps p (default_started (program_of p) (level_of level) leaf class constructor (fields_of n fields.now)) result state.old state.new }
+        ensures { let p = self.now.program.now in Steps p (default_started (program_of p) (level_of level) leaf class constructor (fields_of fields.now)) result state.old state.new }
     {
         let this = this_place(state)?;
         let place = place_in(this, leaf)?;
         let arguments = Vec::new(self.alloc);
-        let task = Task::Call(CallTask::CallOn(level, constructor, place, arguments));
+        let task = Task::Call(CallTask::ConstructAt(level, constructor, place, arguments));
         let rest = Task::Object(ObjectTask::DefaultFields(level, fields));
         self.field_entered(state, level, place, ObjectType::Class(class), task, rest)
     }
@@ -119,7 +120,7 @@ impl<'p> Machine<'p> {
         class: u32,
         fields: &'p [Field],
     ) -> Result<Next<'p>, Halt>
-        ensures { let p = self.now.program.now in let n = numbers_of p in Steps p (step_default_field (program_of p) (level_of level) leaf (trees.class class) (fields_of n fields.now)) result state.old state.new }
+        ensures { let p = self.now.program.now in Steps p (step_default_field (program_of p) (level_of level) leaf (trees.class class) (fields_of fields.now)) result state.old state.new }
     {
         match self.class_at(class) {
             Some(definition) => match definition.definition.default_constructor {
@@ -146,11 +147,11 @@ impl<'p> Machine<'p> {
         of: ObjectType,
         fields: &'p [Field],
     ) -> Result<Next<'p>, Halt>
-        ensures { let p = self.now.program.now in let n = numbers_of p in Steps p (step_default_field (program_of p) (level_of level) leaf (type_of of) (fields_of n fields.now)) result state.old state.new }
+        ensures { let p = self.now.program.now in Steps p (step_default_field (program_of p) (level_of level) leaf (type_of of) (fields_of fields.now)) result state.old state.new }
     {
         match of {
             ObjectType::Class(class) => self.default_class(state, level, leaf, class, fields),
-            ObjectType::Scalar(_) | ObjectType::Pointer => {
+            ObjectType::Scalar(_) | ObjectType::Pointer(_) | ObjectType::FunctionPointer(_) => {
                 self.doing(
                     state,
                     Task::Object(ObjectTask::DefaultFields(level, fields)),
@@ -166,7 +167,7 @@ impl<'p> Machine<'p> {
         level: Level,
         fields: &'p [Field],
     ) -> Result<Next<'p>, Halt>
-        ensures { let p = self.now.program.now in let n = numbers_of p in Steps p (step_default_fields (program_of p) (level_of level) (fields_of n fields.now)) result state.old state.new }
+        ensures { let p = self.now.program.now in Steps p (step_default_fields (program_of p) (level_of level) (fields_of fields.now)) result state.old state.new }
     {
         match fields.split_first() {
             None => Ok(Next::Give(Given::Nothing)),
@@ -189,7 +190,7 @@ impl<'p> Machine<'p> {
         f: &'p Field,
         rest: &'p [Field],
     ) -> Result<Next<'p>, Halt>
-        ensures { let p = self.now.program.now in let n = numbers_of p in Steps p (step_copying_fields (program_of p) (level_of level) (address_of source) (field_of n f.now ∷ fields_of n rest.now)) result state.old state.new }
+        ensures { let p = self.now.program.now in Steps p (step_copying_fields (program_of p) (level_of level) (address_of source) (field_of f.now ∷ fields_of rest.now)) result state.old state.new }
     {
         let this = this_place(state)?;
         let from = place_in(source, f.leaf)?;
@@ -208,7 +209,7 @@ impl<'p> Machine<'p> {
         source: Address,
         fields: &'p [Field],
     ) -> Result<Next<'p>, Halt>
-        ensures { let p = self.now.program.now in let n = numbers_of p in Steps p (step_copying_fields (program_of p) (level_of level) (address_of source) (fields_of n fields.now)) result state.old state.new }
+        ensures { let p = self.now.program.now in Steps p (step_copying_fields (program_of p) (level_of level) (address_of source) (fields_of fields.now)) result state.old state.new }
     {
         match fields.split_first() {
             None => Ok(Next::Give(Given::Nothing)),
@@ -223,7 +224,7 @@ impl<'p> Machine<'p> {
         source: Address,
         to: Address,
     ) -> Result<Next<'p>, Halt>
-        ensures { let p = self.now.program.now in let n = numbers_of p in Steps p (copied_leaf (program_of p) (address_of source) (address_of to)) result state.old state.new }
+        ensures { let p = self.now.program.now in Steps p (copied_leaf (program_of p) (address_of source) (address_of to)) result state.old state.new }
     {
         copy_leaf(state, source, to)?;
         Ok(Next::Give(Given::Nothing))
@@ -238,7 +239,7 @@ impl<'p> Machine<'p> {
         source: Address,
         to: Address,
     ) -> Result<Next<'p>, Halt>
-        ensures { let p = self.now.program.now in let n = numbers_of p in Steps p (step_copying_members (program_of p) (level_of level) (fields_of n fields.now) (address_of source) (address_of to)) result state.old state.new }
+        ensures { let p = self.now.program.now in Steps p (step_copying_members (program_of p) (level_of level) (fields_of fields.now) (address_of source) (address_of to)) result state.old state.new }
     {
         if fields.is_empty() {
             return self.leaf_copied(state, source, to);
@@ -258,10 +259,10 @@ impl<'p> Machine<'p> {
         source: Address,
         to: Address,
     ) -> Result<Next<'p>, Halt>
-        ensures { let p = self.now.program.now in let n = numbers_of p in Steps p (copied_by (level_of level) (class_of n class.now) (address_of source) (address_of to)) result state.now state.now }
+        ensures { let p = self.now.program.now in Steps p (copied_by (level_of level) (class_of class.now) (address_of source) (address_of to)) result state.now state.now }
     {
         let arguments = vec![in self.alloc; Value::Address(source)]?;
-        let task = CallTask::CallOn(level, class.definition.copy_constructor, to, arguments);
+        let task = CallTask::ConstructAt(level, class.definition.copy_constructor, to, arguments);
         self.doing(state, Task::Call(task))
     }
 
@@ -274,7 +275,7 @@ impl<'p> Machine<'p> {
         source: Address,
         to: Address,
     ) -> Result<Next<'p>, Halt>
-        ensures { let p = self.now.program.now in let n = numbers_of p in Steps p (step_copying_object (program_of p) (level_of level) (trees.class class) (address_of source) (address_of to)) result state.now state.now }
+        ensures { let p = self.now.program.now in Steps p (step_copying_object (program_of p) (level_of level) (trees.class class) (address_of source) (address_of to)) result state.now state.now }
     {
         match self.class_at(class) {
             Some(definition) => self.copy_by(state, level, definition, source, to),
@@ -291,12 +292,13 @@ impl<'p> Machine<'p> {
         source: Address,
         to: Address,
     ) -> Result<Next<'p>, Halt>
-        ensures { let p = self.now.program.now in let n = numbers_of p in Steps p (step_copying_object (program_of p) (level_of level) (type_of of) (address_of source) (address_of to)) result state.old state.new }
+        ensures { let p = self.now.program.now in Steps p (step_copying_object (program_of p) (level_of level) (type_of of) (address_of source) (address_of to)) result state.old state.new }
     {
         match of {
             ObjectType::Class(class) => self.copying_class(state, level, class, source, to),
             ObjectType::Scalar(_) => self.leaf_copied(state, source, to),
-            ObjectType::Pointer => self.leaf_copied(state, source, to),
+            ObjectType::Pointer(_) => self.leaf_copied(state, source, to),
+            ObjectType::FunctionPointer(_) => self.leaf_copied(state, source, to),
         }
     }
 }

@@ -1,6 +1,6 @@
 //! What is given is replaced, or another task follows.
 ghost use Rattle.cx_plain.specs.Step.{step_given};
-ghost use Rattle.cx_mean.specs.Seen.{numbers_of, program_of};
+ghost use Rattle.cx_mean.specs.Seen.{table_of, program_of};
 ghost use Rattle.cx_mean.specs.Frames.{given_of, following_frame_of};
 ghost use Rattle.cx_mean.specs.Steps.{Steps};
 ghost use Rattle.cx_plain.specs.Task as tasks;
@@ -14,7 +14,7 @@ use cx_plain_state::{Halt, State, undefined};
 impl<'p> Machine<'p> {
     /// The value that `return` is given completes its statement.
     fn returning(&self, state: &State<'p>, given: Given<'p>) -> Result<Next<'p>, Halt>
-        ensures { let p = self.now.program.now in let n = numbers_of p in Steps p (step_given (program_of p) tasks.returning (given_of given.entry)) result state.now state.now }
+        ensures { let p = self.now.program.now in Steps p (step_given (program_of p) tasks.returning (given_of given.entry)) result state.now state.now }
     {
         match given {
             Given::Value(v) => Ok(Next::Give(Given::Completion(Completion::Return(v)))),
@@ -29,7 +29,7 @@ impl<'p> Machine<'p> {
         frame: FollowingFrame<'p>,
         given: Given<'p>,
     ) -> Result<Next<'p>, Halt>
-        ensures { let p = self.now.program.now in let n = numbers_of p in Steps p (step_given (program_of p) (following_frame_of n frame.entry) (given_of given.entry)) result state.now state.now }
+        ensures { let p = self.now.program.now in let n = table_of p in Steps p (step_given (program_of p) (following_frame_of n frame.entry) (given_of given.entry)) result state.now state.now }
     {
         match frame {
             FollowingFrame::Discard => Ok(Next::Give(Given::Nothing)),

@@ -4,7 +4,7 @@ ghost use Rattle.cx_plain.specs.Step.{doing};
 ghost use Rattle.cx_plain.specs.Task as tasks;
 ghost use Rattle.cx_plain_state.specs.Ran.{Ran};
 ghost use Rattle.cx_plain_state.specs.Seen.{state_of};
-ghost use Rattle.cx_mean.specs.Seen.{numbers_of};
+ghost use Rattle.cx_mean.specs.Seen.{table_of};
 ghost use Rattle.cx_mean.specs.Tasks.{task_of};
 ghost use Rattle.cx_mean.specs.Frames.{frames_of, waiting_of, next_of};
 ghost use Rattle.cx_mean.specs.Steps.{GivesNothing};
@@ -29,7 +29,7 @@ pub(crate) fn silent<'p>(done: Result<(), Halt>) -> Result<Next<'p>, Halt>
 impl<'p> Machine<'p> {
     /// The frame under which a task is followed by another one.
     pub(crate) fn then(&self, task: Task<'p>) -> Result<Waiting<'p>, AllocError>
-        ensures { let n = numbers_of self.now.program.now in IfOk result (λ frame. waiting_of n frame ≡ tasks.then_next (task_of n task.entry)) }
+        ensures { let n = table_of self.now.program.now in IfOk result (λ frame. waiting_of n frame ≡ tasks.then_next (task_of n task.entry)) }
     {
         let task = Box::new(self.alloc, task)?;
         Ok(Waiting::Following(FollowingFrame::ThenNext(task)))
@@ -41,7 +41,7 @@ impl<'p> Machine<'p> {
         frames: Vec<Waiting<'p>>,
         frame: Waiting<'p>,
     ) -> Result<Vec<Waiting<'p>>, AllocError>
-        ensures { let n = numbers_of self.now.program.now in IfOk result (λ all. frames_of n all.items ≡ waiting_of n frame.entry ∷ frames_of n frames.entry.items) }
+        ensures { let n = table_of self.now.program.now in IfOk result (λ all. frames_of n all.items ≡ waiting_of n frame.entry ∷ frames_of n frames.entry.items) }
     {
         let mut all = frames;
         all.push(frame)?;
@@ -54,7 +54,7 @@ impl<'p> Machine<'p> {
         frames: Vec<Waiting<'p>>,
         task: Task<'p>,
     ) -> Result<Vec<Waiting<'p>>, AllocError>
-        ensures { let n = numbers_of self.now.program.now in IfOk result (λ all. frames_of n all.items ≡ tasks.then_next (task_of n task.entry) ∷ frames_of n frames.entry.items) }
+        ensures { let n = table_of self.now.program.now in IfOk result (λ all. frames_of n all.items ≡ tasks.then_next (task_of n task.entry) ∷ frames_of n frames.entry.items) }
     {
         let frame = self.then(task)?;
         self.framed(frames, frame)
@@ -67,7 +67,7 @@ impl<'p> Machine<'p> {
         task: Task<'p>,
         frames: Vec<Waiting<'p>>,
     ) -> Result<Next<'p>, Halt>
-        ensures { let n = numbers_of self.now.program.now in Ran (next_of n) (doing (task_of n task.entry) (frames_of n frames.entry.items) (state_of state.now)) result (state_of state.now) }
+        ensures { let n = table_of self.now.program.now in Ran (next_of n) (doing (task_of n task.entry) (frames_of n frames.entry.items) (state_of state.now)) result (state_of state.now) }
     {
         Ok(Next::Go(task, frames))
     }

@@ -1,9 +1,9 @@
 //! Statements that evaluate a full-expression, and those that wait for a check or a block.
-ghost use Rattle.cx_core.specs.Numbered.{expr_of, operand_of, init_of, stmt_of, stmts_of};
+ghost use Rattle.cx_core.specs.View.{expr_of, operand_of, init_of};
 ghost use Rattle.cx_core.specs.Tree as tree;
 ghost use Rattle.cx_plain.specs.Step.{step_statement};
 ghost use Rattle.cx_plain_state.specs.Seen.{type_of};
-ghost use Rattle.cx_mean.specs.Seen.{numbers_of, program_of, handlers_of};
+ghost use Rattle.cx_mean.specs.Seen.{stmt_of, stmts_of, table_of, program_of, handlers_of};
 ghost use Rattle.cx_mean.specs.Tasks.{level_of};
 ghost use Rattle.cx_mean.specs.Steps.{Steps};
 
@@ -20,19 +20,17 @@ use cx_plain_state::{Halt, ObjectType, State, Value};
 
 #[tactic(auto, unfolding(cx_core::specs::Outcome::either, cx_core::specs::Outcome::gives, cx_core::specs::Outcome::ends, cx_core::specs::Outcome::throws))]
 impl<'p> Machine<'p> {
-    /// An expression is evaluated, and its value discarded.
+    /// An operand is evaluated, and its value discarded.
     pub(crate) fn discarded(
         &self,
-        state: &mut State<'p>,
+        state: &State<'p>,
         level: Level,
-        e: &'p Expression,
+        a: &'p Operand,
     ) -> Result<Next<'p>, Halt>
-        ensures { let p = self.now.program.now in let n = numbers_of p in Steps p (step_statement (program_of p) (level_of level) (tree.expression (expr_of n e.now))) result state.old state.new }
+        ensures { let p = self.now.program.now in Steps p (step_statement (program_of p) (level_of level) (tree.expression (operand_of a.now))) result state.now state.now }
     {
-        let full = self.enter_full_expression(state, level);
-        let task = Task::Expression(ExpressionTask::Expression(level, e));
-        let completed = Waiting::Following(FollowingFrame::Completed);
-        self.under_two(state, task, full, completed)
+        let task = Task::Expression(ExpressionTask::Evaluated(level, a));
+        self.under(state, task, Waiting::Following(FollowingFrame::Completed))
     }
 
     /// A variable that isn't a reference is declared.
@@ -44,7 +42,7 @@ impl<'p> Machine<'p> {
         of: ObjectType,
         i: &'p Initializer,
     ) -> Result<Next<'p>, Halt>
-        ensures { let p = self.now.program.now in let n = numbers_of p in Steps p (step_statement (program_of p) (level_of level) (tree.variable_declaration slot (type_of of) (init_of n i.now))) result state.now state.now }
+        ensures { let p = self.now.program.now in Steps p (step_statement (program_of p) (level_of level) (tree.variable_declaration slot (type_of of) (init_of i.now))) result state.now state.now }
     {
         let task = Task::Object(ObjectTask::Declaring(level, slot, of, i));
         self.under(state, task, Waiting::Following(FollowingFrame::Completed))
@@ -58,7 +56,7 @@ impl<'p> Machine<'p> {
         slot: u32,
         e: &'p Expression,
     ) -> Result<Next<'p>, Halt>
-        ensures { let p = self.now.program.now in let n = numbers_of p in Steps p (step_statement (program_of p) (level_of level) (tree.reference_declaration slot (expr_of n e.now))) result state.old state.new }
+        ensures { let p = self.now.program.now in Steps p (step_statement (program_of p) (level_of level) (tree.reference_declaration slot (expr_of e.now))) result state.old state.new }
     {
         state.bind(slot, Value::Null)?;
         let full = self.enter_full_expression(state, level);
@@ -77,7 +75,7 @@ impl<'p> Machine<'p> {
         a: &'p Box<Statement>,
         b: &'p Box<Statement>,
     ) -> Result<Next<'p>, Halt>
-        ensures { let p = self.now.program.now in let n = numbers_of p in Steps p (step_statement (program_of p) (level_of level) (tree.if_else (operand_of n c.now) (stmt_of n a.now.value) (stmt_of n b.now.value))) result state.now state.now }
+        ensures { let p = self.now.program.now in let n = table_of p in Steps p (step_statement (program_of p) (level_of level) (tree.if_else (operand_of c.now) (stmt_of n a.now.value) (stmt_of n b.now.value))) result state.now state.now }
     {
         let task = Task::Expression(ExpressionTask::EvaluatedTruth(level, c));
         self.under(
@@ -94,7 +92,7 @@ impl<'p> Machine<'p> {
         level: Level,
         a: &'p Operand,
     ) -> Result<Next<'p>, Halt>
-        ensures { let p = self.now.program.now in let n = numbers_of p in Steps p (step_statement (program_of p) (level_of level) (tree.return_value (operand_of n a.now))) result state.old state.new }
+        ensures { let p = self.now.program.now in Steps p (step_statement (program_of p) (level_of level) (tree.return_value (operand_of a.now))) result state.old state.new }
     {
         let full = self.enter_full_expression(state, level);
         let returning = Waiting::Following(FollowingFrame::Returning);
@@ -110,7 +108,7 @@ impl<'p> Machine<'p> {
         level: Level,
         e: &'p Expression,
     ) -> Result<Next<'p>, Halt>
-        ensures { let p = self.now.program.now in let n = numbers_of p in Steps p (step_statement (program_of p) (level_of level) (tree.return_reference (expr_of n e.now))) result state.old state.new }
+        ensures { let p = self.now.program.now in Steps p (step_statement (program_of p) (level_of level) (tree.return_reference (expr_of e.now))) result state.old state.new }
     {
         let full = self.enter_full_expression(state, level);
         let task = Task::Expression(ExpressionTask::Expression(level, e));
@@ -125,7 +123,7 @@ impl<'p> Machine<'p> {
         level: Level,
         i: &'p Initializer,
     ) -> Result<Next<'p>, Halt>
-        ensures { let p = self.now.program.now in let n = numbers_of p in Steps p (step_statement (program_of p) (level_of level) (tree.return_object (init_of n i.now))) result state.old state.new }
+        ensures { let p = self.now.program.now in Steps p (step_statement (program_of p) (level_of level) (tree.return_object (init_of i.now))) result state.old state.new }
     {
         let full = self.enter_full_expression(state, level);
         let place = result_in_frame(state)?;
@@ -144,7 +142,7 @@ impl<'p> Machine<'p> {
         assertion: u32,
         predicate: &'p Operand,
     ) -> Result<Next<'p>, Halt>
-        ensures { let p = self.now.program.now in let n = numbers_of p in Steps p (step_statement (program_of p) (level_of level) (tree.contract_assert (n.assertion assertion (operand_of n predicate.now)))) result state.now state.now }
+        ensures { let p = self.now.program.now in let n = table_of p in Steps p (step_statement (program_of p) (level_of level) (tree.contract_assert (n assertion) (operand_of predicate.now))) result state.now state.now }
     {
         let row = Row::Statement(assertion, predicate);
         let task = Task::Check(CheckTask::Checks(level, Party::Definer, row));
@@ -159,7 +157,7 @@ impl<'p> Machine<'p> {
         of: ObjectType,
         i: &'p Initializer,
     ) -> Result<Next<'p>, Halt>
-        ensures { let p = self.now.program.now in let n = numbers_of p in Steps p (step_statement (program_of p) (level_of level) (tree.throw (type_of of) (init_of n i.now))) result state.old state.new }
+        ensures { let p = self.now.program.now in Steps p (step_statement (program_of p) (level_of level) (tree.throw (type_of of) (init_of i.now))) result state.old state.new }
     {
         let full = self.enter_full_expression(state, level);
         let task = Task::Object(ObjectTask::Making(level, Keeper::Nobody, of, None, i));
@@ -175,7 +173,7 @@ impl<'p> Machine<'p> {
         b: &'p [Statement],
         h: &'p [Handler],
     ) -> Result<Next<'p>, Halt>
-        ensures { let p = self.now.program.now in let n = numbers_of p in Steps p (step_statement (program_of p) (level_of level) (tree.try (stmts_of n b.now) (handlers_of n h.now))) result state.now state.now }
+        ensures { let p = self.now.program.now in let n = table_of p in Steps p (step_statement (program_of p) (level_of level) (tree.try (stmts_of n b.now) (handlers_of n h.now))) result state.now state.now }
     {
         let frame = Waiting::Statement(StatementFrame::Catching(level, h));
         self.statement_under(state, StatementTask::Block(level, b), frame)

@@ -1,13 +1,13 @@
 //! Handlers of exceptions.
-ghost use Rattle.std.specs.Prelude.{◌≡◌, ◌∷◌, IfOk, OnOk, IfErr};
-ghost use Rattle.cx_core.specs.Numbered.{init_of, stmts_of, parameter_of};
+ghost use Rattle.std.specs.Prelude.{◌≡◌, ◌∷◌, IfOk, OnOk, IfErr, Bool};
+ghost use Rattle.cx_core.specs.View.{init_of, parameter_of};
 ghost use Rattle.cx_core.specs.Tree as tree;
 ghost use Rattle.cx_plain.specs.Task as tasks;
 ghost use Rattle.cx_plain.specs.Step.{step_parameter, step_handled, step_handling};
 ghost use Rattle.cx_plain_state.specs.declared.answer.Halt.TheVariants.{Want};
 ghost use Rattle.cx_plain_state.specs.Ran.{Ran};
 ghost use Rattle.cx_plain_state.specs.Seen.{state_of, type_of, exception_of};
-ghost use Rattle.cx_mean.specs.Seen.{numbers_of, program_of, handler_of, handlers_of};
+ghost use Rattle.cx_mean.specs.Seen.{stmts_of, table_of, program_of, handler_of, handlers_of};
 ghost use Rattle.cx_mean.specs.Tasks.{level_of};
 ghost use Rattle.cx_mean.specs.Frames.{frames_of, waiting_of};
 ghost use Rattle.cx_mean.specs.StatementParts.{caught, flown, innermost_flown, flown_again};
@@ -32,7 +32,7 @@ impl<'p> Machine<'p> {
         level: Level,
         e: Exception,
     ) -> Result<Waiting<'p>, Halt>
-        ensures frame { IfOk result (λ frame. waiting_of (numbers_of self.now.program.now) frame ≡ tasks.holding (level_of level) (exception_of e) (state_of state.old).held) }
+        ensures frame { IfOk result (λ frame. waiting_of (table_of self.now.program.now) frame ≡ tasks.holding (level_of level) (exception_of e) (state_of state.old).held) }
         ensures entered { OnOk result (state_of state.new ≡ record (state_of state.old) { held = exception_of e ∷ (state_of state.old).held }) }
         ensures want { IfErr result (λ halt. halt ≡ Want) }
     {
@@ -52,7 +52,7 @@ impl<'p> Machine<'p> {
         b: &'p [Statement],
         frames: Vec<Waiting<'p>>,
     ) -> Result<Next<'p>, Halt>
-        ensures { let p = self.now.program.now in let n = numbers_of p in Steps p (step_parameter (program_of p) (level_of level) (tree.reference slot) (exception_of e) (stmts_of n b.now) (frames_of n frames.entry.items)) result state.old state.new }
+        ensures { let p = self.now.program.now in let n = table_of p in Steps p (step_parameter (program_of p) (level_of level) (tree.reference slot) (exception_of e) (stmts_of n b.now) (frames_of n frames.entry.items)) result state.old state.new }
     {
         let place = Address {
             object: e.object,
@@ -74,7 +74,7 @@ impl<'p> Machine<'p> {
         b: &'p [Statement],
         frames: Vec<Waiting<'p>>,
     ) -> Result<Next<'p>, Halt>
-        ensures { let p = self.now.program.now in let n = numbers_of p in Steps p (step_parameter (program_of p) (level_of level) (tree.object slot (init_of n i.now)) (exception_of e) (stmts_of n b.now) (frames_of n frames.entry.items)) result state.now state.now }
+        ensures { let p = self.now.program.now in let n = table_of p in (is_named : Bool) → Steps p (step_parameter (program_of p) (level_of level) (tree.object slot is_named (init_of i.now)) (exception_of e) (stmts_of n b.now) (frames_of n frames.entry.items)) result state.now state.now }
     {
         let block = self.statement_of(StatementTask::Statements(level, b))?;
         let frames = self.followed(frames, block)?;
@@ -92,7 +92,7 @@ impl<'p> Machine<'p> {
         b: &'p [Statement],
         frames: Vec<Waiting<'p>>,
     ) -> Result<Next<'p>, Halt>
-        ensures { let p = self.now.program.now in let n = numbers_of p in Steps p (step_parameter (program_of p) (level_of level) tree.unnamed (exception_of e) (stmts_of n b.now) (frames_of n frames.entry.items)) result state.now state.now }
+        ensures { let p = self.now.program.now in let n = table_of p in Steps p (step_parameter (program_of p) (level_of level) tree.unnamed (exception_of e) (stmts_of n b.now) (frames_of n frames.entry.items)) result state.now state.now }
     {
         let block = self.statement_of(StatementTask::Statements(level, b))?;
         self.under_all(state, block, frames)
@@ -108,14 +108,14 @@ impl<'p> Machine<'p> {
         b: &'p [Statement],
         frames: Vec<Waiting<'p>>,
     ) -> Result<Next<'p>, Halt>
-        ensures { let p = self.now.program.now in let n = numbers_of p in Steps p (step_parameter (program_of p) (level_of level) (parameter_of n parameter.now) (exception_of e) (stmts_of n b.now) (frames_of n frames.entry.items)) result state.old state.new }
+        ensures { let p = self.now.program.now in let n = table_of p in Steps p (step_parameter (program_of p) (level_of level) (parameter_of parameter.now) (exception_of e) (stmts_of n b.now) (frames_of n frames.entry.items)) result state.old state.new }
     {
         match parameter {
             CatchParameter::Unnamed => self.no_parameter(state, level, e, b, frames),
             CatchParameter::Reference(slot) => {
                 self.reference_parameter(state, level, *slot, e, b, frames)
             }
-            CatchParameter::Object(slot, i) => {
+            CatchParameter::Object(slot, _, i) => {
                 self.object_parameter(state, level, *slot, i, e, b, frames)
             }
         }
@@ -129,7 +129,7 @@ impl<'p> Machine<'p> {
         level: Level,
         e: Exception,
     ) -> Result<Vec<Waiting<'p>>, Halt>
-        ensures { let p = self.now.program.now in Ran (λ frames. frames_of (numbers_of p) frames.items) (caught (program_of p) (level_of level) (exception_of e) (state_of state.old)) result (state_of state.new) }
+        ensures { let p = self.now.program.now in Ran (λ frames. frames_of (table_of p) frames.items) (caught (program_of p) (level_of level) (exception_of e) (state_of state.old)) result (state_of state.new) }
     {
         state.append(Event::Catch(self.type_name(e.of)))?;
         let holding = self.enter_handler(state, level, e)?;
@@ -146,7 +146,7 @@ impl<'p> Machine<'p> {
         parameter: &'p CatchParameter,
         b: &'p [Statement],
     ) -> Result<Next<'p>, Halt>
-        ensures { let p = self.now.program.now in let n = numbers_of p in Steps p (step_handled (program_of p) (level_of level) (exception_of e) (parameter_of n parameter.now) (stmts_of n b.now)) result state.old state.new }
+        ensures { let p = self.now.program.now in let n = table_of p in Steps p (step_handled (program_of p) (level_of level) (exception_of e) (parameter_of parameter.now) (stmts_of n b.now)) result state.old state.new }
     {
         let frames = self.caught(state, level, e)?;
         self.parameter(state, level, parameter, e, b, frames)
@@ -160,7 +160,7 @@ impl<'p> Machine<'p> {
         e: Exception,
         b: &'p [Statement],
     ) -> Result<Next<'p>, Halt>
-        ensures { let p = self.now.program.now in let n = numbers_of p in Steps p (step_handling (program_of p) (level_of level) (tree.catch_all (stmts_of n b.now) tree.none) (exception_of e)) result state.old state.new }
+        ensures { let p = self.now.program.now in let n = table_of p in Steps p (step_handling (program_of p) (level_of level) (tree.catch_all (stmts_of n b.now) tree.none) (exception_of e)) result state.old state.new }
     {
         state.spend()?;
         let frames = self.caught(state, level, e)?;
@@ -177,7 +177,7 @@ impl<'p> Machine<'p> {
         rest: &'p [Handler],
         e: Exception,
     ) -> Result<Next<'p>, Halt>
-        ensures { let p = self.now.program.now in let n = numbers_of p in Steps p (step_handling (program_of p) (level_of level) (tree.catch (type_of of) (parameter_of n handler.now.parameter) (stmts_of n handler.now.body.items) (handlers_of n rest.now)) (exception_of e)) result state.old state.new }
+        ensures { let p = self.now.program.now in let n = table_of p in Steps p (step_handling (program_of p) (level_of level) (tree.catch (type_of of) (parameter_of handler.now.parameter) (stmts_of n handler.now.body.items) (handlers_of n rest.now)) (exception_of e)) result state.old state.new }
     {
         state.spend()?;
         if same_type(e.of, of) {
@@ -195,7 +195,7 @@ impl<'p> Machine<'p> {
         rest: &'p [Handler],
         e: Exception,
     ) -> Result<Next<'p>, Halt>
-        ensures { let p = self.now.program.now in let n = numbers_of p in Steps p (step_handling (program_of p) (level_of level) (handler_of n handler.now (handlers_of n rest.now)) (exception_of e)) result state.old state.new }
+        ensures { let p = self.now.program.now in let n = table_of p in Steps p (step_handling (program_of p) (level_of level) (handler_of n handler.now (handlers_of n rest.now)) (exception_of e)) result state.old state.new }
     {
         match &handler.catches {
             None => self.handled_by_all(state, level, e, &handler.body),
@@ -214,7 +214,7 @@ impl<'p> Machine<'p> {
         h: &'p [Handler],
         e: Exception,
     ) -> Result<Next<'p>, Halt>
-        ensures { let p = self.now.program.now in let n = numbers_of p in Steps p (step_handling (program_of p) (level_of level) (handlers_of n h.now) (exception_of e)) result state.old state.new }
+        ensures { let p = self.now.program.now in let n = table_of p in Steps p (step_handling (program_of p) (level_of level) (handlers_of n h.now) (exception_of e)) result state.old state.new }
     {
         match h.split_first() {
             None => Err(Halt::Thrown(e)),
@@ -224,7 +224,7 @@ impl<'p> Machine<'p> {
 
     /// An exception that is held flies again.
     fn flown(&self, state: &mut State<'p>, e: Exception) -> Result<Next<'p>, Halt>
-        ensures { let p = self.now.program.now in let n = numbers_of p in Steps p (flown (program_of p) (exception_of e)) result state.old state.new }
+        ensures { let p = self.now.program.now in Steps p (flown (program_of p) (exception_of e)) result state.old state.new }
     {
         state.append(Event::Throw(self.type_name(e.of)))?;
         Err(Halt::Thrown(e))
@@ -233,7 +233,7 @@ impl<'p> Machine<'p> {
     /// The innermost exception that is held flies again.
     #[tactic(auto, unfolding(cx_plain_state::specs::Seen::state_of, cx_core::specs::Outcome::either, cx_core::specs::Outcome::current_held, cx_core::specs::Outcome::ends))]
     fn innermost_flown(&self, state: &mut State<'p>) -> Result<Next<'p>, Halt>
-        ensures { let p = self.now.program.now in let n = numbers_of p in Steps p (innermost_flown (program_of p)) result state.old state.new }
+        ensures { let p = self.now.program.now in Steps p (innermost_flown (program_of p)) result state.old state.new }
     {
         match state.held.first() {
             None => Err(Halt::Over(Answer::Ended(Ending::Terminated))),
@@ -246,7 +246,7 @@ impl<'p> Machine<'p> {
 
     /// An exception is rethrown.
     pub(crate) fn rethrown(&self, state: &mut State<'p>) -> Result<Next<'p>, Halt>
-        ensures { let p = self.now.program.now in let n = numbers_of p in Steps p (flown_again (program_of p)) result state.old state.new }
+        ensures { let p = self.now.program.now in Steps p (flown_again (program_of p)) result state.old state.new }
     {
         state.spend()?;
         self.innermost_flown(state)

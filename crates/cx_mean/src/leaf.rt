@@ -1,8 +1,8 @@
 //! Expressions without parts.
-ghost use Rattle.cx_core.specs.Numbered.{constant};
+ghost use Rattle.cx_core.specs.View.{constant};
 ghost use Rattle.cx_plain_state.specs.Ran.{Ran};
 ghost use Rattle.cx_plain_state.specs.Seen.{state_of, value_of};
-ghost use Rattle.cx_mean.specs.Parts.{literal_of, variable_of, global_of, result_in_frame, result_name_of, exception_object_of};
+ghost use Rattle.cx_mean.specs.Parts.{literal_of, variable_of, global_of, function_name_of, result_in_frame, result_name_of, exception_object_of};
 ghost use Rattle.cx_mean.specs.Steps.{GivesValue};
 
 use crate::waiting::{Given, Next};
@@ -50,6 +50,15 @@ pub(crate) fn global<'p>(state: &mut State<'p>, index: u32) -> Result<Value<'p>,
     state.spend()?;
     let object = u64::from(index) + 1;
     Ok(Value::Address(Address { object, leaf: 0 }))
+}
+
+/// A function that is taken as a value.
+#[tactic(auto, unfolding(cx_core::specs::Outcome::either, cx_core::specs::Outcome::gives))]
+pub(crate) fn function_name<'p>(state: &mut State<'p>, function: u32) -> Result<Value<'p>, Halt>
+    ensures { Ran value_of (function_name_of function (state_of state.old)) result (state_of state.new) }
+{
+    state.spend()?;
+    Ok(Value::Function(function))
 }
 
 /// The result of the active call.

@@ -6,7 +6,7 @@ ghost use Rattle.cx_plain.specs.Task as tasks;
 ghost use Rattle.cx_plain_state.specs.declared.answer.Halt.TheVariants.{Want};
 ghost use Rattle.cx_plain_state.specs.Ran.{Ran};
 ghost use Rattle.cx_plain_state.specs.Seen.{state_of, exception_of, exceptions_of, held_of, living_of, livings_of};
-ghost use Rattle.cx_mean.specs.Seen.{numbers_of, program_of};
+ghost use Rattle.cx_mean.specs.Seen.{table_of, program_of};
 ghost use Rattle.cx_mean.specs.Tasks.{level_of};
 ghost use Rattle.cx_mean.specs.Frames.{given_of, left_of, leaving_frame_of, waiting_of, next_of};
 ghost use Rattle.cx_mean.specs.Parts.{scope_left, full_expression_left, fields_undone, released, handler_left};
@@ -23,7 +23,7 @@ use std::mem;
 impl<'p> Machine<'p> {
     /// A scope is entered. The frame that leaves it is given.
     pub(crate) fn enter_scope(&self, state: &mut State<'p>, level: Level) -> Waiting<'p>
-        ensures frame { waiting_of (numbers_of self.now.program.now) result ≡ tasks.leaving_scope (level_of level) (state_of state.old).living }
+        ensures frame { waiting_of (table_of self.now.program.now) result ≡ tasks.leaving_scope (level_of level) (state_of state.old).living }
         ensures entered { state_of state.new ≡ record (state_of state.old) { living = [] } }
     {
         let outer = mem::replace(&mut state.living, Vec::new(self.alloc));
@@ -32,7 +32,7 @@ impl<'p> Machine<'p> {
 
     /// A full-expression is entered. The frame that leaves it is given.
     pub(crate) fn enter_full_expression(&self, state: &mut State<'p>, level: Level) -> Waiting<'p>
-        ensures frame { waiting_of (numbers_of self.now.program.now) result ≡ tasks.leaving_full (level_of level) (state_of state.old).temporaries }
+        ensures frame { waiting_of (table_of self.now.program.now) result ≡ tasks.leaving_full (level_of level) (state_of state.old).temporaries }
         ensures entered { state_of state.new ≡ record (state_of state.old) { temporaries = [] } }
     {
         let outer = mem::replace(&mut state.temporaries, Vec::new(self.alloc));
@@ -41,7 +41,7 @@ impl<'p> Machine<'p> {
 
     /// The construction of an object is entered. The frame that leaves it is given.
     pub(crate) fn enter_construction(&self, state: &mut State<'p>, level: Level) -> Waiting<'p>
-        ensures frame { waiting_of (numbers_of self.now.program.now) result ≡ tasks.constructing (level_of level) (state_of state.old).living }
+        ensures frame { waiting_of (table_of self.now.program.now) result ≡ tasks.constructing (level_of level) (state_of state.old).living }
         ensures entered { state_of state.new ≡ record (state_of state.old) { living = [] } }
     {
         let outer = mem::replace(&mut state.living, Vec::new(self.alloc));
@@ -50,7 +50,7 @@ impl<'p> Machine<'p> {
 
     /// The code of a unit is entered, in the frame of the active call. The frame that goes back is given.
     pub(crate) fn enter_unit(&self, state: &mut State<'p>, unit: u32) -> Result<Waiting<'p>, Halt>
-        ensures frame { IfOk result (λ w. waiting_of (numbers_of self.now.program.now) w ≡ tasks.within (state_of state.old).frame) }
+        ensures frame { IfOk result (λ w. waiting_of (table_of self.now.program.now) w ≡ tasks.within (state_of state.old).frame) }
         ensures entered { OnOk result (state_of state.new ≡ record (state_of state.old) { frame = record ((state_of state.old).frame) { unit = unit } }) }
         ensures want { IfErr result (λ halt. halt ≡ Want) }
     {
@@ -89,7 +89,7 @@ impl<'p> Machine<'p> {
 
     /// How a part was left is passed on.
     fn passed(&self, state: &State<'p>, left: Left<'p>) -> Result<Next<'p>, Halt>
-        ensures { Ran (next_of (numbers_of self.now.program.now)) (left_by (left_of left.entry) (state_of state.now)) result (state_of state.now) }
+        ensures { Ran (next_of (table_of self.now.program.now)) (left_by (left_of left.entry) (state_of state.now)) result (state_of state.now) }
     {
         match left {
             Left::Given(given) => Ok(Next::Give(given)),
@@ -105,7 +105,7 @@ impl<'p> Machine<'p> {
         living: &[Living],
         frame: LeavingFrame<'p>,
     ) -> Result<Next<'p>, Halt>
-        ensures { Ran (next_of (numbers_of self.now.program.now)) (doing (tasks.ending_each (level_of level) (map living_of living.now)) (leaving_frame_of frame.entry ∷ []) (state_of state.now)) result (state_of state.now) }
+        ensures { Ran (next_of (table_of self.now.program.now)) (doing (tasks.ending_each (level_of level) (map living_of living.now)) (leaving_frame_of frame.entry ∷ []) (state_of state.now)) result (state_of state.now) }
     {
         let living = Vec::from_slice(self.alloc, living)?;
         let task = Task::Object(ObjectTask::EndingEach(level, living));
@@ -121,7 +121,7 @@ impl<'p> Machine<'p> {
         outer: Vec<Living>,
         left: Left<'p>,
     ) -> Result<Next<'p>, Halt>
-        ensures { Ran (next_of (numbers_of self.now.program.now)) (scope_left (level_of level) (livings_of outer) (left_of left.entry) (state_of state.now)) result (state_of state.now) }
+        ensures { Ran (next_of (table_of self.now.program.now)) (scope_left (level_of level) (livings_of outer) (left_of left.entry) (state_of state.now)) result (state_of state.now) }
     {
         let frame = LeavingFrame::RestoreLiving(outer, left);
         self.ending_under(state, level, &state.living, frame)
@@ -136,7 +136,7 @@ impl<'p> Machine<'p> {
         outer: Vec<Living>,
         left: Left<'p>,
     ) -> Result<Next<'p>, Halt>
-        ensures { Ran (next_of (numbers_of self.now.program.now)) (full_expression_left (level_of level) (livings_of outer) (left_of left.entry) (state_of state.now)) result (state_of state.now) }
+        ensures { Ran (next_of (table_of self.now.program.now)) (full_expression_left (level_of level) (livings_of outer) (left_of left.entry) (state_of state.now)) result (state_of state.now) }
     {
         let frame = LeavingFrame::RestoreTemporaries(outer, left);
         self.ending_under(state, level, &state.temporaries, frame)
@@ -151,7 +151,7 @@ impl<'p> Machine<'p> {
         outer: Vec<Living>,
         e: Exception,
     ) -> Result<Next<'p>, Halt>
-        ensures { Ran (next_of (numbers_of self.now.program.now)) (fields_undone (level_of level) (livings_of outer) (exception_of e) (state_of state.now)) result (state_of state.now) }
+        ensures { Ran (next_of (table_of self.now.program.now)) (fields_undone (level_of level) (livings_of outer) (exception_of e) (state_of state.now)) result (state_of state.now) }
     {
         let frame = LeavingFrame::UndoneFields(outer, e);
         self.ending_under(state, level, &state.living, frame)
@@ -166,7 +166,7 @@ impl<'p> Machine<'p> {
         among: bool,
         left: Left<'p>,
     ) -> Result<Next<'p>, Halt>
-        ensures { Ran (next_of (numbers_of self.now.program.now)) (released (level_of level) (exception_of e) among (left_of left.entry) (state_of state.now)) result (state_of state.now) }
+        ensures { Ran (next_of (table_of self.now.program.now)) (released (level_of level) (exception_of e) among (left_of left.entry) (state_of state.now)) result (state_of state.now) }
     {
         if among {
             return self.passed(state, left);
@@ -185,7 +185,7 @@ impl<'p> Machine<'p> {
         among: bool,
         left: Left<'p>,
     ) -> Result<Next<'p>, Halt>
-        ensures { Ran (next_of (numbers_of self.now.program.now)) (handler_left (level_of level) (exception_of e) (exceptions_of others) among (left_of left.entry) (state_of state.old)) result (state_of state.new) }
+        ensures { Ran (next_of (table_of self.now.program.now)) (handler_left (level_of level) (exception_of e) (exceptions_of others) among (left_of left.entry) (state_of state.old)) result (state_of state.new) }
     {
         drop(state.replace_held(others));
         self.release(state, level, e, among, left)
@@ -198,7 +198,7 @@ impl<'p> Machine<'p> {
         frame: LeavingFrame<'p>,
         given: Given<'p>,
     ) -> Result<Next<'p>, Halt>
-        ensures { let p = self.now.program.now in let n = numbers_of p in Steps p (step_given (program_of p) (leaving_frame_of frame.entry) (given_of given.entry)) result state.old state.new }
+        ensures { let p = self.now.program.now in Steps p (step_given (program_of p) (leaving_frame_of frame.entry) (given_of given.entry)) result state.old state.new }
     {
         match frame {
             LeavingFrame::LeavingScope(level, outer) => self.leave_scope(
@@ -249,7 +249,7 @@ impl<'p> Machine<'p> {
         frame: LeavingFrame<'p>,
         e: Exception,
     ) -> Result<Next<'p>, Halt>
-        ensures { let p = self.now.program.now in let n = numbers_of p in Steps p (step_thrown (program_of p) (leaving_frame_of frame.entry) (exception_of e)) result state.old state.new }
+        ensures { let p = self.now.program.now in Steps p (step_thrown (program_of p) (leaving_frame_of frame.entry) (exception_of e)) result state.old state.new }
     {
         match frame {
             LeavingFrame::LeavingScope(level, outer) => self.leave_scope(

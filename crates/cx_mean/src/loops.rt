@@ -1,11 +1,11 @@
 //! Loops.
 ghost use Rattle.std.specs.Option.{option_map};
 ghost use Rattle.std.specs.Prelude.{suc};
-ghost use Rattle.cx_core.specs.Numbered.{operand_of, stmt_of, condition_of};
+ghost use Rattle.cx_core.specs.View.{operand_of, condition_of};
 ghost use Rattle.cx_core.specs.Tree as tree;
 ghost use Rattle.cx_plain.specs.Task as tasks;
 ghost use Rattle.cx_plain.specs.Step.{step_statement, step_testing, step_turns, step_turn_done, step_task, step_given};
-ghost use Rattle.cx_mean.specs.Seen.{numbers_of, program_of};
+ghost use Rattle.cx_mean.specs.Seen.{stmt_of, table_of, program_of};
 ghost use Rattle.cx_mean.specs.Tasks.{level_of, loop_of};
 ghost use Rattle.cx_mean.specs.Frames.{completion_of, given_of};
 ghost use Rattle.cx_mean.specs.StatementParts.{after_turn};
@@ -28,7 +28,7 @@ impl<'p> Machine<'p> {
         c: &'p Operand,
         body: &'p Box<Statement>,
     ) -> Result<Next<'p>, Halt>
-        ensures { let p = self.now.program.now in let n = numbers_of p in Steps p (step_statement (program_of p) (level_of level) (tree.while_loop (operand_of n c.now) (stmt_of n body.now.value))) result state.now state.now }
+        ensures { let p = self.now.program.now in let n = table_of p in Steps p (step_statement (program_of p) (level_of level) (tree.while_loop (operand_of c.now) (stmt_of n body.now.value))) result state.now state.now }
     {
         let turned = Loop {
             condition: Some(c),
@@ -48,7 +48,7 @@ impl<'p> Machine<'p> {
         step: &'p Box<Statement>,
         body: &'p Box<Statement>,
     ) -> Result<Next<'p>, Halt>
-        ensures { let p = self.now.program.now in let n = numbers_of p in Steps p (step_statement (program_of p) (level_of level) (tree.for_loop (stmt_of n first.now.value) (condition_of n (option_map (λ a. a.now) condition.entry)) (stmt_of n step.now.value) (stmt_of n body.now.value))) result state.old state.new }
+        ensures { let p = self.now.program.now in let n = table_of p in Steps p (step_statement (program_of p) (level_of level) (tree.for_loop (stmt_of n first.now.value) (condition_of (option_map (λ a. a.now) condition.entry)) (stmt_of n step.now.value) (stmt_of n body.now.value))) result state.old state.new }
     {
         let scope = self.enter_scope(state, level);
         let turned = Loop {
@@ -69,7 +69,7 @@ impl<'p> Machine<'p> {
         level: Level,
         condition: Option<&'p Operand>,
     ) -> Result<Next<'p>, Halt>
-        ensures { let p = self.now.program.now in let n = numbers_of p in Steps p (step_testing (program_of p) (level_of level) (condition_of n (option_map (λ a. a.now) condition.entry))) result state.old state.new }
+        ensures { let p = self.now.program.now in Steps p (step_testing (program_of p) (level_of level) (condition_of (option_map (λ a. a.now) condition.entry))) result state.old state.new }
     {
         match condition {
             None => Ok(Next::Give(Given::Truth(true))),
@@ -88,7 +88,7 @@ impl<'p> Machine<'p> {
         level: Level,
         turned: Loop<'p>,
     ) -> Result<Next<'p>, Halt>
-        ensures { let p = self.now.program.now in let n = numbers_of p in Steps p (step_task (program_of p) (tasks.looping (level_of level) (loop_of n turned.entry))) result state.old state.new }
+        ensures { let p = self.now.program.now in let n = table_of p in Steps p (step_task (program_of p) (tasks.looping (level_of level) (loop_of n turned.entry))) result state.old state.new }
     {
         let turns = state.budget;
         self.next_statement(state, StatementTask::Turns(level, turned, turns))
@@ -102,7 +102,7 @@ impl<'p> Machine<'p> {
         turned: Loop<'p>,
         turns: u64,
     ) -> Result<Next<'p>, Halt>
-        ensures { let p = self.now.program.now in let n = numbers_of p in Steps p (step_turns (program_of p) (level_of level) (loop_of n turned.entry) (suc turns)) result state.old state.new }
+        ensures { let p = self.now.program.now in let n = table_of p in Steps p (step_turns (program_of p) (level_of level) (loop_of n turned.entry) (suc turns)) result state.old state.new }
     {
         state.spend()?;
         let frame = Waiting::Statement(StatementFrame::TurnTested(level, turned, turns));
@@ -121,7 +121,7 @@ impl<'p> Machine<'p> {
         turned: Loop<'p>,
         turns: u64,
     ) -> Result<Next<'p>, Halt>
-        ensures { let p = self.now.program.now in let n = numbers_of p in Steps p (step_turns (program_of p) (level_of level) (loop_of n turned.entry) turns) result state.old state.new }
+        ensures { let p = self.now.program.now in let n = table_of p in Steps p (step_turns (program_of p) (level_of level) (loop_of n turned.entry) turns) result state.old state.new }
     {
         match turns.checked_sub(1) {
             None => Err(Halt::Over(Answer::Going)),
@@ -137,7 +137,7 @@ impl<'p> Machine<'p> {
         turned: Loop<'p>,
         turns: u64,
     ) -> Result<Next<'p>, Halt>
-        ensures { let p = self.now.program.now in let n = numbers_of p in Steps p (after_turn (level_of level) (loop_of n turned.entry) turns) result state.now state.now }
+        ensures { let p = self.now.program.now in let n = table_of p in Steps p (after_turn (level_of level) (loop_of n turned.entry) turns) result state.now state.now }
     {
         match turned.step {
             None => self.next_statement(state, StatementTask::Turns(level, turned, turns)),
@@ -158,7 +158,7 @@ impl<'p> Machine<'p> {
         turns: u64,
         completion: Completion<'p>,
     ) -> Result<Next<'p>, Halt>
-        ensures { let p = self.now.program.now in let n = numbers_of p in Steps p (step_turn_done (program_of p) (level_of level) (loop_of n turned.entry) turns (completion_of completion.entry)) result state.old state.new }
+        ensures { let p = self.now.program.now in let n = table_of p in Steps p (step_turn_done (program_of p) (level_of level) (loop_of n turned.entry) turns (completion_of completion.entry)) result state.old state.new }
     {
         match completion {
             Completion::OnToNext => self.after_turn(state, level, turned, turns),
@@ -177,7 +177,7 @@ impl<'p> Machine<'p> {
         turns: u64,
         given: Given<'p>,
     ) -> Result<Next<'p>, Halt>
-        ensures { let p = self.now.program.now in let n = numbers_of p in Steps p (step_given (program_of p) (tasks.turn_tested (level_of level) (loop_of n turned.entry) turns) (given_of given.entry)) result state.old state.new }
+        ensures { let p = self.now.program.now in let n = table_of p in Steps p (step_given (program_of p) (tasks.turn_tested (level_of level) (loop_of n turned.entry) turns) (given_of given.entry)) result state.old state.new }
     {
         match given {
             Given::Truth(true) => {
@@ -198,7 +198,7 @@ impl<'p> Machine<'p> {
         turns: u64,
         given: Given<'p>,
     ) -> Result<Next<'p>, Halt>
-        ensures { let p = self.now.program.now in let n = numbers_of p in Steps p (step_given (program_of p) (tasks.turn_done (level_of level) (loop_of n turned.entry) turns) (given_of given.entry)) result state.old state.new }
+        ensures { let p = self.now.program.now in let n = table_of p in Steps p (step_given (program_of p) (tasks.turn_done (level_of level) (loop_of n turned.entry) turns) (given_of given.entry)) result state.old state.new }
     {
         match given {
             Given::Completion(c) => self.turn_done(state, level, turned, turns, c),

@@ -4,7 +4,7 @@ ghost use Rattle.cx_plain.specs.Task as tasks;
 ghost use Rattle.cx_plain_state.specs.declared.answer.Halt.TheVariants.{Want};
 ghost use Rattle.cx_plain_state.specs.Ran.{Ran};
 ghost use Rattle.cx_plain_state.specs.Seen.{state_of};
-ghost use Rattle.cx_mean.specs.Seen.{numbers_of, program_of};
+ghost use Rattle.cx_mean.specs.Seen.{table_of, program_of};
 ghost use Rattle.cx_mean.specs.Tasks.{task_of, statement_task_of};
 ghost use Rattle.cx_mean.specs.Frames.{next_of, waiting_of};
 
@@ -29,14 +29,14 @@ impl<'p> Machine<'p> {
         task: Task<'p>,
         frame: Waiting<'p>,
     ) -> Result<Next<'p>, Halt>
-        ensures { let n = numbers_of self.now.program.now in Ran (next_of n) (doing (task_of n task.entry) (waiting_of n frame.entry ∷ []) (state_of state.now)) result (state_of state.now) }
+        ensures { let n = table_of self.now.program.now in Ran (next_of n) (doing (task_of n task.entry) (waiting_of n frame.entry ∷ []) (state_of state.now)) result (state_of state.now) }
     {
         Ok(Next::Go(task, vec![in self.alloc; frame]?))
     }
 
     /// A task is done under no more frames.
     pub(crate) fn doing(&self, state: &State<'p>, task: Task<'p>) -> Result<Next<'p>, Halt>
-        ensures { let n = numbers_of self.now.program.now in Ran (next_of n) (doing (task_of n task.entry) [] (state_of state.now)) result (state_of state.now) }
+        ensures { let n = table_of self.now.program.now in Ran (next_of n) (doing (task_of n task.entry) [] (state_of state.now)) result (state_of state.now) }
     {
         Ok(Next::Go(task, Vec::new(self.alloc)))
     }
@@ -49,7 +49,7 @@ impl<'p> Machine<'p> {
         inner: Waiting<'p>,
         outer: Waiting<'p>,
     ) -> Result<Next<'p>, Halt>
-        ensures { let n = numbers_of self.now.program.now in Ran (next_of n) (doing (task_of n task.entry) (waiting_of n inner.entry ∷ waiting_of n outer.entry ∷ []) (state_of state.now)) result (state_of state.now) }
+        ensures { let n = table_of self.now.program.now in Ran (next_of n) (doing (task_of n task.entry) (waiting_of n inner.entry ∷ waiting_of n outer.entry ∷ []) (state_of state.now)) result (state_of state.now) }
     {
         Ok(Next::Go(task, vec![in self.alloc; outer, inner]?))
     }
@@ -63,14 +63,14 @@ impl<'p> Machine<'p> {
         middle: Waiting<'p>,
         outer: Waiting<'p>,
     ) -> Result<Next<'p>, Halt>
-        ensures { let n = numbers_of self.now.program.now in Ran (next_of n) (doing (task_of n task.entry) (waiting_of n inner.entry ∷ waiting_of n middle.entry ∷ waiting_of n outer.entry ∷ []) (state_of state.now)) result (state_of state.now) }
+        ensures { let n = table_of self.now.program.now in Ran (next_of n) (doing (task_of n task.entry) (waiting_of n inner.entry ∷ waiting_of n middle.entry ∷ waiting_of n outer.entry ∷ []) (state_of state.now)) result (state_of state.now) }
     {
         Ok(Next::Go(task, vec![in self.alloc; outer, middle, inner]?))
     }
 
     /// The frame under which another task follows.
     pub(crate) fn then_next(&self, task: Task<'p>) -> Result<Waiting<'p>, Halt>
-        ensures frame { let n = numbers_of self.now.program.now in IfOk result (λ w. waiting_of n w ≡ tasks.then_next (task_of n task.entry)) }
+        ensures frame { let n = table_of self.now.program.now in IfOk result (λ w. waiting_of n w ≡ tasks.then_next (task_of n task.entry)) }
         ensures want { IfErr result (λ halt. halt ≡ Want) }
     {
         Ok(Waiting::Following(FollowingFrame::ThenNext(Box::new(self.alloc, task)?)))
@@ -78,7 +78,7 @@ impl<'p> Machine<'p> {
 
     /// A task of statements.
     pub(crate) fn statement_of(&self, task: StatementTask<'p>) -> Result<Task<'p>, Halt>
-        ensures task { let n = numbers_of self.now.program.now in IfOk result (λ t. task_of n t ≡ statement_task_of n task.entry) }
+        ensures task { let n = table_of self.now.program.now in IfOk result (λ t. task_of n t ≡ statement_task_of n task.entry) }
         ensures want { IfErr result (λ halt. halt ≡ Want) }
     {
         Ok(Task::Statement(Box::new(self.alloc, task)?))

@@ -1,9 +1,9 @@
 //! Objects that are made and declared.
-ghost use Rattle.cx_core.specs.Numbered.{init_of};
+ghost use Rattle.cx_core.specs.View.{init_of};
 ghost use Rattle.cx_plain.specs.Step.{no_calls, keeps, bind_object, step_given, step_thrown, step_task};
 ghost use Rattle.cx_plain_state.specs.Ran.{Ran, unit_of, itself};
 ghost use Rattle.cx_plain_state.specs.Seen.{state_of, value_of, exception_of, living_of, address_of, type_of};
-ghost use Rattle.cx_mean.specs.Seen.{numbers_of, program_of};
+ghost use Rattle.cx_mean.specs.Seen.{table_of, program_of};
 ghost use Rattle.cx_mean.specs.Tasks.{level_of, keeper_of, object_task_of};
 ghost use Rattle.cx_mean.specs.Frames.{given_of, object_frame_of};
 ghost use Rattle.cx_mean.specs.Parts.{made_at, object_kept, field_kept, value_written, place_bound, exception_thrown};
@@ -50,7 +50,8 @@ impl<'p> Machine<'p> {
     {
         match of {
             ObjectType::Scalar(_) => Ok(1),
-            ObjectType::Pointer => Ok(1),
+            ObjectType::Pointer(_) => Ok(1),
+            ObjectType::FunctionPointer(_) => Ok(1),
             ObjectType::Class(class) => match self.class_at(class) {
                 Some(definition) => Ok(definition.definition.leaves.items().len()),
                 None => Err(undefined(Kind::Mixed)),
@@ -94,7 +95,7 @@ impl<'p> Machine<'p> {
         i: &'p Initializer,
         leaves: usize,
     ) -> Result<Next<'p>, Halt>
-        ensures { let p = self.now.program.now in let n = numbers_of p in Steps p (made_at (level_of level) (keeper_of keeper) (type_of of) slot (init_of n i.now) leaves) result state.old state.new }
+        ensures { let p = self.now.program.now in Steps p (made_at (level_of level) (keeper_of keeper) (type_of of) slot (init_of i.now) leaves) result state.old state.new }
     {
         let object = state.make(self.alloc, leaves)?;
         bind_object(state, slot, object)?;
@@ -117,7 +118,7 @@ impl<'p> Machine<'p> {
         slot: Option<u32>,
         i: &'p Initializer,
     ) -> Result<Next<'p>, Halt>
-        ensures { let p = self.now.program.now in let n = numbers_of p in Steps p (step_task (program_of p) (tasks.making (level_of level) (keeper_of keeper) (type_of of) slot (init_of n i.now))) result state.old state.new }
+        ensures { let p = self.now.program.now in Steps p (step_task (program_of p) (tasks.making (level_of level) (keeper_of keeper) (type_of of) slot (init_of i.now))) result state.old state.new }
     {
         let leaves = self.leaves_of(state, of)?;
         self.make_at(state, level, keeper, of, slot, i, leaves)
@@ -133,7 +134,7 @@ impl<'p> Machine<'p> {
         of: ObjectType,
         i: &'p Initializer,
     ) -> Result<Next<'p>, Halt>
-        ensures { let p = self.now.program.now in let n = numbers_of p in Steps p (step_task (program_of p) (tasks.declaring (level_of level) slot (type_of of) (init_of n i.now))) result state.old state.new }
+        ensures { let p = self.now.program.now in Steps p (step_task (program_of p) (tasks.declaring (level_of level) slot (type_of of) (init_of i.now))) result state.old state.new }
     {
         let full = self.enter_full_expression(state, level);
         let keeper = Keeper::InnermostScope;
@@ -154,7 +155,7 @@ impl<'p> Machine<'p> {
         object: u64,
         of: ObjectType,
     ) -> Result<Next<'p>, Halt>
-        ensures { let p = self.now.program.now in let n = numbers_of p in Steps p (object_kept (keeper_of keeper) object (type_of of)) result state.old state.new }
+        ensures { let p = self.now.program.now in Steps p (object_kept (keeper_of keeper) object (type_of of)) result state.old state.new }
     {
         keep(state, keeper, Living::Whole(object, of))?;
         Ok(Next::Give(Given::Number(object)))
@@ -180,11 +181,13 @@ impl<'p> Machine<'p> {
         a: Address,
         of: ObjectType,
     ) -> Result<Next<'p>, Halt>
-        ensures { let p = self.now.program.now in let n = numbers_of p in Steps p (field_kept (program_of p) (address_of a) (type_of of)) result state.old state.new }
+        ensures { let p = self.now.program.now in Steps p (field_kept (program_of p) (address_of a) (type_of of)) result state.old state.new }
     {
         match of {
             ObjectType::Class(class) => self.keep_class_field(state, a, class),
-            ObjectType::Scalar(_) | ObjectType::Pointer => Ok(Next::Give(Given::Nothing)),
+            ObjectType::Scalar(_) | ObjectType::Pointer(_) | ObjectType::FunctionPointer(_) => {
+                Ok(Next::Give(Given::Nothing))
+            }
         }
     }
 
@@ -195,7 +198,7 @@ impl<'p> Machine<'p> {
         a: Address,
         given: Given<'p>,
     ) -> Result<Next<'p>, Halt>
-        ensures { let p = self.now.program.now in let n = numbers_of p in Steps p (step_given (program_of p) (tasks.write_value (address_of a)) (given_of given.entry)) result state.old state.new }
+        ensures { let p = self.now.program.now in Steps p (step_given (program_of p) (tasks.write_value (address_of a)) (given_of given.entry)) result state.old state.new }
     {
         match given {
             Given::Value(v) => self.write_given(state, a, v),
@@ -205,7 +208,7 @@ impl<'p> Machine<'p> {
 
     /// A reference denotes a place.
     fn bound(&self, state: &mut State<'p>, slot: u32, given: Given<'p>) -> Result<Next<'p>, Halt>
-        ensures { let p = self.now.program.now in let n = numbers_of p in Steps p (step_given (program_of p) (tasks.bound slot) (given_of given.entry)) result state.old state.new }
+        ensures { let p = self.now.program.now in Steps p (step_given (program_of p) (tasks.bound slot) (given_of given.entry)) result state.old state.new }
     {
         match given {
             Given::Value(place) => self.bind_given(state, slot, place),
@@ -220,7 +223,7 @@ impl<'p> Machine<'p> {
         of: ObjectType,
         given: Given<'p>,
     ) -> Result<Next<'p>, Halt>
-        ensures { let p = self.now.program.now in let n = numbers_of p in Steps p (step_given (program_of p) (tasks.throwing (type_of of)) (given_of given.entry)) result state.old state.new }
+        ensures { let p = self.now.program.now in Steps p (step_given (program_of p) (tasks.throwing (type_of of)) (given_of given.entry)) result state.old state.new }
     {
         match given {
             Given::Number(object) => self.throw(state, Exception { object, of }),
@@ -235,7 +238,7 @@ impl<'p> Machine<'p> {
         frame: ObjectFrame,
         given: Given<'p>,
     ) -> Result<Next<'p>, Halt>
-        ensures { let p = self.now.program.now in let n = numbers_of p in Steps p (step_given (program_of p) (object_frame_of frame) (given_of given.entry)) result state.old state.new }
+        ensures { let p = self.now.program.now in Steps p (step_given (program_of p) (object_frame_of frame) (given_of given.entry)) result state.old state.new }
     {
         match frame {
             ObjectFrame::WriteValue(a) => self.write_value(state, a, given),
@@ -253,7 +256,7 @@ impl<'p> Machine<'p> {
         frame: ObjectFrame,
         e: Exception,
     ) -> Result<Next<'p>, Halt>
-        ensures { let p = self.now.program.now in let n = numbers_of p in Steps p (step_thrown (program_of p) (object_frame_of frame) (exception_of e)) result state.old state.new }
+        ensures { let p = self.now.program.now in Steps p (step_thrown (program_of p) (object_frame_of frame) (exception_of e)) result state.old state.new }
     {
         match frame {
             ObjectFrame::Made(_, object, _) => self.end_thrown(state, object, e),
@@ -270,7 +273,7 @@ impl<'p> Machine<'p> {
         state: &mut State<'p>,
         task: ObjectTask<'p>,
     ) -> Result<Next<'p>, Halt>
-        ensures { let p = self.now.program.now in let n = numbers_of p in Steps p (step_task (program_of p) (object_task_of n task.entry)) result state.old state.new }
+        ensures { let p = self.now.program.now in Steps p (step_task (program_of p) (object_task_of task.entry)) result state.old state.new }
     {
         match task {
             ObjectTask::Destroying(level, class, a) => self.destroying(state, level, class, a),

@@ -1,19 +1,19 @@
 //! Operands, initialisers and arguments.
 ghost use Rattle.std.specs.Prelude.{◌≡◌, [], ◌∷◌};
 ghost use Rattle.std.specs.Option.{option_map};
-ghost use Rattle.cx_core.specs.Numbered.{operand_of, init_of, object_type_or_none};
+ghost use Rattle.cx_core.specs.View.{operand_of, init_of, object_type_or_none};
 ghost use Rattle.cx_plain.specs.Task as tasks;
 ghost use Rattle.cx_plain.specs.Step.{doing, step_used, step_initialise, step_arguments, step_task};
 ghost use Rattle.cx_plain_state.specs.Seen.{state_of, address_of, type_of};
 ghost use Rattle.cx_plain_state.specs.Ran.{Ran};
-ghost use Rattle.cx_mean.specs.Seen.{numbers_of, program_of, args_of, argument_of};
+ghost use Rattle.cx_mean.specs.Seen.{table_of, program_of, args_of, argument_of};
 ghost use Rattle.cx_mean.specs.Tasks.{level_of, expression_task_of, call_task_of};
 ghost use Rattle.cx_mean.specs.Frames.{next_of};
 ghost use Rattle.cx_mean.specs.Parts.{zero_first_of};
 ghost use Rattle.cx_mean.specs.Steps.{Steps};
 
 use crate::machine::Machine;
-use crate::task::{CallTask, ExpressionTask, Keeper, Level, ObjectTask, Task};
+use crate::task::{CallTask, Callee, ExpressionTask, Keeper, Level, ObjectTask, Task};
 use crate::waiting::{
     ArgumentFrame, FollowingFrame, Given, Next, ObjectFrame, OperandFrame, Operation, Waiting,
 };
@@ -25,7 +25,7 @@ use cx_types::ValueType;
 impl<'p> Machine<'p> {
     /// The type of an object that is read, if there is one.
     fn type_read(&self, of: Option<ValueType>) -> Option<ObjectType>
-        ensures { option_map type_of result ≡ object_type_or_none (numbers_of self.now.program.now) of }
+        ensures { option_map type_of result ≡ object_type_or_none of }
     {
         match of {
             None => None,
@@ -40,7 +40,7 @@ impl<'p> Machine<'p> {
         level: Level,
         a: &'p Operand,
     ) -> Result<Next<'p>, Halt>
-        ensures { let p = self.now.program.now in let n = numbers_of p in Steps p (step_used (program_of p) (level_of level) (operand_of n a.now)) result state.now state.now }
+        ensures { let p = self.now.program.now in Steps p (step_used (program_of p) (level_of level) (operand_of a.now)) result state.now state.now }
     {
         let read = Operation::Read(self.type_read(a.read));
         let convert = Operation::Convert(a.to);
@@ -59,7 +59,7 @@ impl<'p> Machine<'p> {
         i: &'p Initializer,
         place: Address,
     ) -> Result<Next<'p>, Halt>
-        ensures { let p = self.now.program.now in let n = numbers_of p in Steps p (zero_first_of (program_of p) (level_of level) class (init_of n i.now) (address_of place)) result state.old state.new }
+        ensures { let p = self.now.program.now in Steps p (zero_first_of (program_of p) (level_of level) class (init_of i.now) (address_of place)) result state.old state.new }
     {
         self.zero_object(state, class, place)?;
         let task = Task::Expression(ExpressionTask::Initialise(level, i, place));
@@ -68,7 +68,7 @@ impl<'p> Machine<'p> {
 
     /// A function is called, and what it gives isn't used.
     fn call_discarded(&self, state: &State<'p>, task: CallTask<'p>) -> Result<Next<'p>, Halt>
-        ensures { let n = numbers_of self.now.program.now in Ran (next_of n) (doing (call_task_of n task.entry) (tasks.discard ∷ []) (state_of state.now)) result (state_of state.now) }
+        ensures { let n = table_of self.now.program.now in Ran (next_of n) (doing (call_task_of n task.entry) (tasks.discard ∷ []) (state_of state.now)) result (state_of state.now) }
     {
         self.under(
             state,
@@ -85,7 +85,7 @@ impl<'p> Machine<'p> {
         i: &'p Initializer,
         place: Address,
     ) -> Result<Next<'p>, Halt>
-        ensures { let p = self.now.program.now in let n = numbers_of p in Steps p (step_initialise (program_of p) (level_of level) (init_of n i.now) (address_of place)) result state.old state.new }
+        ensures { let p = self.now.program.now in Steps p (step_initialise (program_of p) (level_of level) (init_of i.now) (address_of place)) result state.old state.new }
     {
         match i {
             Initializer::Value(a) => {
@@ -93,13 +93,20 @@ impl<'p> Machine<'p> {
                 self.under(state, task, Waiting::Object(ObjectFrame::WriteValue(place)))
             }
             Initializer::Construct(function, a) => {
-                let task = CallTask::CallOf(level, *function, Some(place), a, None);
+                let callee = Callee::ByName(*function);
+                let task = CallTask::CallOf(level, callee, Some(place), a, None);
                 self.call_discarded(state, task)
             }
             Initializer::ZeroFirst(class, i) => self.zero_first(state, level, *class, i, place),
             Initializer::ResultOf(function, a) => {
+                let callee = Callee::ByName(*function);
                 let result = Some(Value::Address(place));
-                self.call_discarded(state, CallTask::CallOf(level, *function, None, a, result))
+                self.call_discarded(state, CallTask::CallOf(level, callee, None, a, result))
+            }
+            Initializer::ResultThrough(pointer, a) => {
+                let task = Task::Expression(ExpressionTask::Used(level, pointer));
+                let frame = ArgumentFrame::ResultThrough(level, a, place);
+                self.under(state, task, Waiting::Argument(frame))
             }
         }
     }
@@ -112,7 +119,7 @@ impl<'p> Machine<'p> {
         first: &'p Argument,
         rest: &'p [Argument],
     ) -> Result<Next<'p>, Halt>
-        ensures { let p = self.now.program.now in let n = numbers_of p in Steps p (step_arguments (program_of p) (level_of level) (argument_of n first.now (args_of n rest.now))) result state.now state.now }
+        ensures { let p = self.now.program.now in Steps p (step_arguments (program_of p) (level_of level) (argument_of first.now (args_of rest.now))) result state.now state.now }
     {
         match first {
             Argument::ByReference(e) => {
@@ -142,7 +149,7 @@ impl<'p> Machine<'p> {
         level: Level,
         a: &'p [Argument],
     ) -> Result<Next<'p>, Halt>
-        ensures { let p = self.now.program.now in let n = numbers_of p in Steps p (step_arguments (program_of p) (level_of level) (args_of n a.now)) result state.now state.now }
+        ensures { let p = self.now.program.now in Steps p (step_arguments (program_of p) (level_of level) (args_of a.now)) result state.now state.now }
     {
         match a.split_first() {
             None => Ok(Next::Give(Given::Values(Vec::new(self.alloc)))),
@@ -158,7 +165,7 @@ impl<'p> Machine<'p> {
         level: Level,
         a: &'p Operand,
     ) -> Result<Next<'p>, Halt>
-        ensures { let p = self.now.program.now in let n = numbers_of p in Steps p (step_task (program_of p) (tasks.evaluated (level_of level) (operand_of n a.now))) result state.old state.new }
+        ensures { let p = self.now.program.now in Steps p (step_task (program_of p) (tasks.evaluated (level_of level) (operand_of a.now))) result state.old state.new }
     {
         let full = self.enter_full_expression(state, level);
         self.under(
@@ -174,7 +181,7 @@ impl<'p> Machine<'p> {
         state: &mut State<'p>,
         task: ExpressionTask<'p>,
     ) -> Result<Next<'p>, Halt>
-        ensures { let p = self.now.program.now in let n = numbers_of p in Steps p (step_task (program_of p) (expression_task_of n task.entry)) result state.old state.new }
+        ensures { let p = self.now.program.now in Steps p (step_task (program_of p) (expression_task_of task.entry)) result state.old state.new }
     {
         match task {
             ExpressionTask::Expression(level, e) => self.expression(state, level, e),

@@ -1,11 +1,11 @@
 //! What operands give.
 ghost use Rattle.std.specs.Prelude.{◌≡◌};
-ghost use Rattle.cx_core.specs.Numbered.{operand_of};
+ghost use Rattle.cx_core.specs.View.{operand_of};
 ghost use Rattle.cx_core.specs.Operators.{truth_value};
 ghost use Rattle.cx_core.specs.Meaning.{object_place};
 ghost use Rattle.cx_plain.specs.Step.{step_given};
 ghost use Rattle.cx_plain_state.specs.Seen.{value_of};
-ghost use Rattle.cx_mean.specs.Seen.{numbers_of, program_of};
+ghost use Rattle.cx_mean.specs.Seen.{table_of, program_of};
 ghost use Rattle.cx_mean.specs.Tasks.{level_of};
 ghost use Rattle.cx_mean.specs.Frames.{given_of, operand_frame_of};
 ghost use Rattle.cx_mean.specs.Parts.{truth_tested, decided, chosen};
@@ -45,7 +45,7 @@ impl<'p> Machine<'p> {
         b: &'p Operand,
         x: bool,
     ) -> Result<Next<'p>, Halt>
-        ensures { let p = self.now.program.now in let n = numbers_of p in Steps p (decided (level_of level) decides (operand_of n b.now) x) result state.old state.new }
+        ensures { let p = self.now.program.now in Steps p (decided (level_of level) decides (operand_of b.now) x) result state.old state.new }
     {
         state.spend()?;
         if x == decides {
@@ -63,7 +63,7 @@ impl<'p> Machine<'p> {
         c: &'p Operand,
         x: bool,
     ) -> Result<Next<'p>, Halt>
-        ensures { let p = self.now.program.now in let n = numbers_of p in Steps p (chosen (level_of level) (operand_of n b.now) (operand_of n c.now) x) result state.old state.new }
+        ensures { let p = self.now.program.now in Steps p (chosen (level_of level) (operand_of b.now) (operand_of c.now) x) result state.old state.new }
     {
         state.spend()?;
         let chosen = if x { b } else { c };
@@ -72,7 +72,7 @@ impl<'p> Machine<'p> {
 
     /// A value is converted to `bool`.
     fn test(&self, state: &State<'p>, v: Value<'p>) -> Result<Next<'p>, Halt>
-        ensures { let p = self.now.program.now in let n = numbers_of p in Steps p (truth_tested (value_of v.entry)) result state.now state.now }
+        ensures { let p = self.now.program.now in Steps p (truth_tested (value_of v.entry)) result state.now state.now }
     {
         let truth = state.truth(v)?;
         Ok(Next::Give(Given::Truth(truth)))
@@ -85,7 +85,7 @@ impl<'p> Machine<'p> {
         frame: OperandFrame<'p>,
         v: Value<'p>,
     ) -> Result<Next<'p>, Halt>
-        ensures { let p = self.now.program.now in let n = numbers_of p in Steps p (step_given (program_of p) (operand_frame_of n frame.entry) (tasks.value (value_of v.entry))) result state.old state.new }
+        ensures { let p = self.now.program.now in Steps p (step_given (program_of p) (operand_frame_of frame.entry) (tasks.value (value_of v.entry))) result state.old state.new }
     {
         match frame {
             OperandFrame::Operate(operation) => valued(self.applied(state, operation, v)),
@@ -115,7 +115,7 @@ impl<'p> Machine<'p> {
         frame: OperandFrame<'p>,
         x: bool,
     ) -> Result<Next<'p>, Halt>
-        ensures { let p = self.now.program.now in let n = numbers_of p in Steps p (step_given (program_of p) (operand_frame_of n frame.entry) (tasks.truth x)) result state.old state.new }
+        ensures { let p = self.now.program.now in Steps p (step_given (program_of p) (operand_frame_of frame.entry) (tasks.truth x)) result state.old state.new }
     {
         match frame {
             OperandFrame::Decide(level, decides, b) => self.decide(state, level, decides, b, x),
@@ -137,7 +137,7 @@ impl<'p> Machine<'p> {
         frame: OperandFrame<'p>,
         object: u64,
     ) -> Result<Next<'p>, Halt>
-        ensures { let p = self.now.program.now in let n = numbers_of p in Steps p (step_given (program_of p) (operand_frame_of n frame.entry) (tasks.number object)) result state.now state.now }
+        ensures { let p = self.now.program.now in Steps p (step_given (program_of p) (operand_frame_of frame.entry) (tasks.number object)) result state.now state.now }
     {
         match frame {
             OperandFrame::PlaceOfObject => Ok(Next::Give(Given::Value(object_place(object)))),
@@ -159,7 +159,7 @@ impl<'p> Machine<'p> {
         frame: OperandFrame<'p>,
         given: Given<'p>,
     ) -> Result<Next<'p>, Halt>
-        ensures { let p = self.now.program.now in let n = numbers_of p in Steps p (step_given (program_of p) (operand_frame_of n frame.entry) (given_of given.entry)) result state.old state.new }
+        ensures { let p = self.now.program.now in Steps p (step_given (program_of p) (operand_frame_of frame.entry) (given_of given.entry)) result state.old state.new }
     {
         match given {
             Given::Value(v) => self.operand_value(state, frame, v),

@@ -3,12 +3,12 @@ ghost use Rattle.std.specs.Prelude.{◌≡◌, ◌<◌, length, map, nat_eq, IfO
 ghost use Rattle.std.specs.Option.{option_map};
 ghost use Rattle.cx_core.specs.Block.{begin_told, next_told};
 ghost use Rattle.cx_core.specs.Event.{party_number, same_evaluation, semantic_number};
-ghost use Rattle.cx_core.specs.Numbered.{Numbers, operand_of};
+ghost use Rattle.cx_core.specs.View.{operand_of};
 ghost use Rattle.cx_plain.specs.Step.{continued, due_in_all, evaluation_of as evaluation_by, first_due, has_stood};
 ghost use Rattle.cx_plain_state.specs.declared.answer.Halt.TheVariants.{Want};
 ghost use Rattle.cx_plain_state.specs.Ran.{Ran, unit_of};
 ghost use Rattle.cx_plain_state.specs.Seen.{evaluation_of, state_of};
-ghost use Rattle.cx_mean.specs.Seen.{checks_of, numbers_of};
+ghost use Rattle.cx_mean.specs.Seen.{Table, checks_of, table_of};
 ghost use Rattle.cx_mean.specs.Tasks.{check_seen, due_of, row_of};
 ghost use Rattle.cx_mean.specs.CallParts.{checks_due, place_due};
 
@@ -66,7 +66,7 @@ fn semantic_number(semantic: Semantic) -> u8
 
 /// Whether an evaluation is one that a party makes of an assertion.
 fn is_evaluation(e: &Evaluation, party: Party, check: Check<'_>) -> bool
-    ensures { (n : Numbers) → result ≡ same_evaluation (evaluation_of e.now) (evaluation_by party (check_seen n check.entry)) }
+    ensures { result ≡ same_evaluation (evaluation_of e.now) (evaluation_by party (check_seen check.entry).of) }
 {
     e.assertion.bytes() == check.planned.assertion.name.bytes()
         && is_same_party(e.party, party)
@@ -75,14 +75,14 @@ fn is_evaluation(e: &Evaluation, party: Party, check: Check<'_>) -> bool
 
 /// Whether an assertion has stood once, or is never to stand.
 fn has_stood(due: &Due<'_>) -> bool
-    ensures { (n : Numbers) → result ≡ has_stood (due_of n due.now) }
+    ensures { result ≡ has_stood (due_of due.now) }
 {
     due.left < due.check.planned.times || due.check.planned.times == 0
 }
 
 /// The place of the assertion whose evaluation is told, if each before it has stood.
 fn place_due(e: &Evaluation, party: Party, due: &[Due<'_>]) -> Option<usize>
-    ensures value { (n : Numbers) → result ≡ place_due party (evaluation_of e.now) (map (due_of n) due.now) }
+    ensures value { result ≡ place_due party (evaluation_of e.now) (map due_of due.now) }
     ensures within { IfSome result (λ i. i < length due.now) }
 {
     let (first, rest) = due.split_first()?;
@@ -101,7 +101,7 @@ pub(crate) fn go_on<'p>(
     party: Party,
     due: Vec<Due<'p>>,
 ) -> Option<(Check<'p>, Vec<Due<'p>>)>
-    ensures { (n : Numbers) → option_map (λ more. (check_seen n more.0, map (due_of n) more.1.items)) result ≡ continued party (evaluation_of e.now) (map (due_of n) due.entry.items) }
+    ensures { option_map (λ more. (check_seen more.0, map due_of more.1.items)) result ≡ continued party (evaluation_of e.now) (map due_of due.entry.items) }
 {
     let mut due = due;
     let i = place_due(e, party, &due)?;
@@ -113,7 +113,7 @@ pub(crate) fn go_on<'p>(
 
 /// How many evaluations are owed in all, or `None` where that is too many for a number.
 pub(crate) fn due_in_all(due: &[Due<'_>]) -> Option<u64>
-    ensures { (n : Numbers) → IfSome result (λ count. count ≡ due_in_all (checks_due (map (due_of n) due.now))) }
+    ensures { IfSome result (λ count. count ≡ due_in_all (checks_due (map due_of due.now))) }
 {
     match due.split_first() {
         None => Some(0),
@@ -124,7 +124,7 @@ pub(crate) fn due_in_all(due: &[Due<'_>]) -> Option<u64>
 impl<'p> Machine<'p> {
     /// What is owed of an assertion of the program's table.
     fn first_due(&self, assertion: u32, predicate: &'p Operand) -> Result<Due<'p>, Halt>
-        ensures due { let n = numbers_of self.now.program.now in IfOk result (λ d. due_of n d ≡ first_due (n.assertion assertion (operand_of n predicate.now))) }
+        ensures due { let n = table_of self.now.program.now in IfOk result (λ d. due_of d ≡ first_due (record { of = n assertion; predicate = operand_of predicate.now })) }
         ensures want { IfErr result (λ halt. halt ≡ Want) }
     {
         let Some(planned) = self.program.assertions.get(assertion as usize) else {
@@ -139,7 +139,7 @@ impl<'p> Machine<'p> {
 
     /// What is owed of the assertions of a function.
     fn all_due(&self, specifiers: &'p [Specifier]) -> Result<Vec<Due<'p>>, Halt>
-        ensures due { let n = numbers_of self.now.program.now in IfOk result (λ due. map (due_of n) due.items ≡ map first_due (checks_of n specifiers.now)) }
+        ensures due { let n = table_of self.now.program.now in IfOk result (λ due. map due_of due.items ≡ map first_due (checks_of n specifiers.now)) }
         ensures want { IfErr result (λ halt. halt ≡ Want) }
     {
         let mut due = Vec::new(self.alloc);
@@ -151,7 +151,7 @@ impl<'p> Machine<'p> {
 
     /// What a row owes at first. An assertion that isn't in the program's table is want of it.
     pub(crate) fn row_due(&self, row: Row<'p>) -> Result<Vec<Due<'p>>, Halt>
-        ensures due { let n = numbers_of self.now.program.now in IfOk result (λ due. map (due_of n) due.items ≡ map first_due (row_of n row.entry)) }
+        ensures due { let n = table_of self.now.program.now in IfOk result (λ due. map due_of due.items ≡ map first_due (row_of n row.entry)) }
         ensures want { IfErr result (λ halt. halt ≡ Want) }
     {
         match row {

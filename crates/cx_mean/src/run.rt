@@ -1,6 +1,5 @@
 //! The run of a program, step by step, and what it means.
 ghost use Rattle.std.specs.Prelude.{◌≡◌, [], map, reverse, IfOk, IfSome};
-ghost use Rattle.cx_core.specs.Numbered.{Numbers};
 ghost use Rattle.cx_core.specs.Meaning as meaning;
 ghost use Rattle.cx_core.specs.Meaning.{mean};
 ghost use Rattle.cx_core.specs.Outcome as outcome;
@@ -9,7 +8,7 @@ ghost use Rattle.cx_plain.specs.Task as tasks;
 ghost use Rattle.cx_plain.specs.Run.{step_config, passing, first};
 ghost use Rattle.cx_plain_state.specs.Ran.{Ran};
 ghost use Rattle.cx_plain_state.specs.Seen.{state_of, answer_of, evaluation_of, exception_of};
-ghost use Rattle.cx_mean.specs.Seen.{numbers_of, program_of};
+ghost use Rattle.cx_mean.specs.Seen.{Table, table_of, program_of};
 ghost use Rattle.cx_mean.specs.Frames.{next_of, frames_of, left_of, given_of};
 ghost use Rattle.cx_mean.specs.Runs.{config_of, Stands, Means, meaning_of, settled_from, left_outcome};
 
@@ -71,7 +70,7 @@ fn settle<'p>(
     stack: &mut Vec<Waiting<'p>>,
     next: Result<Next<'p>, Halt>,
 ) -> Result<Standing<'p>, Stop<'p>>
-    ensures { (n : Numbers) (o : Outcome tasks.Next) (s : outcome.State) → Ran (next_of n) o next.entry s → Stands n (settled_from (frames_of n stack.old.items) o) result stack.new.items s }
+    ensures { (n : Table) (o : Outcome tasks.Next) (s : outcome.State) → Ran (next_of n) o next.entry s → Stands n (settled_from (frames_of n stack.old.items) o) result stack.new.items s }
 {
     match next {
         Ok(Next::Give(given)) => Ok(Standing::Left(Left::Given(given))),
@@ -120,7 +119,7 @@ impl<'p> Machine<'p> {
         stack: &mut Vec<Waiting<'p>>,
         given: Given<'p>,
     ) -> Result<Standing<'p>, Stop<'p>>
-        ensures { let p = self.now.program.now in let n = numbers_of p in Stands n (step_config (program_of p) (passing (tasks.given (given_of given.entry)) (frames_of n stack.old.items)) (state_of state.old)) result stack.new.items (state_of state.new) }
+        ensures { let p = self.now.program.now in let n = table_of p in Stands n (step_config (program_of p) (passing (tasks.given (given_of given.entry)) (frames_of n stack.old.items)) (state_of state.old)) result stack.new.items (state_of state.new) }
     {
         match stack.pop() {
             Some(frame) => {
@@ -138,7 +137,7 @@ impl<'p> Machine<'p> {
         stack: &mut Vec<Waiting<'p>>,
         e: Exception,
     ) -> Result<Standing<'p>, Stop<'p>>
-        ensures { let p = self.now.program.now in let n = numbers_of p in Stands n (step_config (program_of p) (passing (tasks.thrown (exception_of e)) (frames_of n stack.old.items)) (state_of state.old)) result stack.new.items (state_of state.new) }
+        ensures { let p = self.now.program.now in let n = table_of p in Stands n (step_config (program_of p) (passing (tasks.thrown (exception_of e)) (frames_of n stack.old.items)) (state_of state.old)) result stack.new.items (state_of state.new) }
     {
         match stack.pop() {
             Some(frame) => {
@@ -156,7 +155,7 @@ impl<'p> Machine<'p> {
         stack: &mut Vec<Waiting<'p>>,
         at: Standing<'p>,
     ) -> Result<Standing<'p>, Stop<'p>>
-        ensures { let p = self.now.program.now in let n = numbers_of p in Stands n (step_config (program_of p) (config_of n at.entry stack.old.items) (state_of state.old)) result stack.new.items (state_of state.new) }
+        ensures { let p = self.now.program.now in let n = table_of p in Stands n (step_config (program_of p) (config_of n at.entry stack.old.items) (state_of state.old)) result stack.new.items (state_of state.new) }
     {
         match at {
             Standing::Task(task) => {
@@ -170,12 +169,14 @@ impl<'p> Machine<'p> {
 
     /// The call of `main`.
     fn first(&self) -> Standing<'p>
-        ensures { let p = self.now.program.now in config_of (numbers_of p) result [] ≡ first (program_of p) }
+        ensures { let p = self.now.program.now in config_of (table_of p) result [] ≡ first (program_of p) }
     {
         let arguments = Vec::new(self.alloc);
         let call = Call {
             function: self.program.main,
+            caller: None,
             unit: 0,
+            reports: None,
             arguments,
             result: None,
         };

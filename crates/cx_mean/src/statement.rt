@@ -1,11 +1,10 @@
 //! Statements.
 ghost use Rattle.std.specs.Prelude.{[], ◌∷◌};
-ghost use Rattle.cx_core.specs.Numbered.{stmt_of, stmts_of};
 ghost use Rattle.cx_plain.specs.Task as tasks;
 ghost use Rattle.cx_plain.specs.Step.{doing, step_statement, step_statements, step_sequence, step_task, step_given, step_thrown};
 ghost use Rattle.cx_plain_state.specs.Ran.{Ran};
 ghost use Rattle.cx_plain_state.specs.Seen.{state_of, exception_of};
-ghost use Rattle.cx_mean.specs.Seen.{numbers_of, program_of};
+ghost use Rattle.cx_mean.specs.Seen.{stmt_of, stmts_of, table_of, program_of};
 ghost use Rattle.cx_mean.specs.Tasks.{level_of, statement_task_of};
 ghost use Rattle.cx_mean.specs.Frames.{completion_of, given_of, next_of, statement_frame_of, waiting_of};
 ghost use Rattle.cx_mean.specs.Steps.{Steps};
@@ -25,7 +24,7 @@ impl<'p> Machine<'p> {
         state: &State<'p>,
         task: StatementTask<'p>,
     ) -> Result<Next<'p>, Halt>
-        ensures { let n = numbers_of self.now.program.now in Ran (next_of n) (doing (statement_task_of n task.entry) [] (state_of state.now)) result (state_of state.now) }
+        ensures { let n = table_of self.now.program.now in Ran (next_of n) (doing (statement_task_of n task.entry) [] (state_of state.now)) result (state_of state.now) }
     {
         let task = self.statement_of(task)?;
         self.doing(state, task)
@@ -38,7 +37,7 @@ impl<'p> Machine<'p> {
         task: StatementTask<'p>,
         frame: Waiting<'p>,
     ) -> Result<Next<'p>, Halt>
-        ensures { let n = numbers_of self.now.program.now in Ran (next_of n) (doing (statement_task_of n task.entry) (waiting_of n frame.entry ∷ []) (state_of state.now)) result (state_of state.now) }
+        ensures { let n = table_of self.now.program.now in Ran (next_of n) (doing (statement_task_of n task.entry) (waiting_of n frame.entry ∷ []) (state_of state.now)) result (state_of state.now) }
     {
         let task = self.statement_of(task)?;
         self.under(state, task, frame)
@@ -51,7 +50,7 @@ impl<'p> Machine<'p> {
         level: Level,
         s: &'p Statement,
     ) -> Result<Next<'p>, Halt>
-        ensures { let p = self.now.program.now in let n = numbers_of p in Steps p (step_statement (program_of p) (level_of level) (stmt_of n s.now)) result state.old state.new }
+        ensures { let p = self.now.program.now in let n = table_of p in Steps p (step_statement (program_of p) (level_of level) (stmt_of n s.now)) result state.old state.new }
     {
         match s {
             Statement::Empty => Ok(Next::Give(Given::Completion(Completion::OnToNext))),
@@ -93,7 +92,7 @@ impl<'p> Machine<'p> {
         level: Level,
         b: &'p [Statement],
     ) -> Result<Next<'p>, Halt>
-        ensures { let p = self.now.program.now in let n = numbers_of p in Steps p (step_statements (program_of p) (level_of level) (stmts_of n b.now)) result state.old state.new }
+        ensures { let p = self.now.program.now in let n = table_of p in Steps p (step_statements (program_of p) (level_of level) (stmts_of n b.now)) result state.old state.new }
     {
         match b.split_first() {
             None => Ok(Next::Give(Given::Completion(Completion::OnToNext))),
@@ -111,7 +110,7 @@ impl<'p> Machine<'p> {
         level: Level,
         b: &'p [Statement],
     ) -> Result<Next<'p>, Halt>
-        ensures { let p = self.now.program.now in let n = numbers_of p in Steps p (step_task (program_of p) (tasks.block (level_of level) (stmts_of n b.now))) result state.old state.new }
+        ensures { let p = self.now.program.now in let n = table_of p in Steps p (step_task (program_of p) (tasks.block (level_of level) (stmts_of n b.now))) result state.old state.new }
     {
         let scope = self.enter_scope(state, level);
         self.statement_under(state, StatementTask::Statements(level, b), scope)
@@ -125,7 +124,7 @@ impl<'p> Machine<'p> {
         rest: &'p [Statement],
         completion: Completion<'p>,
     ) -> Result<Next<'p>, Halt>
-        ensures { let p = self.now.program.now in let n = numbers_of p in Steps p (step_sequence (program_of p) (level_of level) (stmts_of n rest.now) (completion_of completion.entry)) result state.old state.new }
+        ensures { let p = self.now.program.now in let n = table_of p in Steps p (step_sequence (program_of p) (level_of level) (stmts_of n rest.now) (completion_of completion.entry)) result state.old state.new }
     {
         match completion {
             Completion::OnToNext => self.next_statement(
@@ -144,7 +143,7 @@ impl<'p> Machine<'p> {
         state: &mut State<'p>,
         task: StatementTask<'p>,
     ) -> Result<Next<'p>, Halt>
-        ensures { let p = self.now.program.now in let n = numbers_of p in Steps p (step_task (program_of p) (statement_task_of n task.entry)) result state.old state.new }
+        ensures { let p = self.now.program.now in let n = table_of p in Steps p (step_task (program_of p) (statement_task_of n task.entry)) result state.old state.new }
     {
         match task {
             StatementTask::Statement(level, s) => self.statement(state, level, s),
@@ -166,7 +165,7 @@ impl<'p> Machine<'p> {
         b: &'p Box<Statement>,
         given: Given<'p>,
     ) -> Result<Next<'p>, Halt>
-        ensures { let p = self.now.program.now in let n = numbers_of p in Steps p (step_given (program_of p) (tasks.branch (level_of level) (stmt_of n a.now.value) (stmt_of n b.now.value)) (given_of given.entry)) result state.old state.new }
+        ensures { let p = self.now.program.now in let n = table_of p in Steps p (step_given (program_of p) (tasks.branch (level_of level) (stmt_of n a.now.value) (stmt_of n b.now.value)) (given_of given.entry)) result state.old state.new }
     {
         match given {
             Given::Truth(true) => self.next_statement(state, StatementTask::Statement(level, a)),
@@ -183,7 +182,7 @@ impl<'p> Machine<'p> {
         rest: &'p [Statement],
         given: Given<'p>,
     ) -> Result<Next<'p>, Halt>
-        ensures { let p = self.now.program.now in let n = numbers_of p in Steps p (step_given (program_of p) (tasks.sequence (level_of level) (stmts_of n rest.now)) (given_of given.entry)) result state.old state.new }
+        ensures { let p = self.now.program.now in let n = table_of p in Steps p (step_given (program_of p) (tasks.sequence (level_of level) (stmts_of n rest.now)) (given_of given.entry)) result state.old state.new }
     {
         match given {
             Given::Completion(c) => self.sequence(state, level, rest, c),
@@ -198,7 +197,7 @@ impl<'p> Machine<'p> {
         frame: StatementFrame<'p>,
         given: Given<'p>,
     ) -> Result<Next<'p>, Halt>
-        ensures { let p = self.now.program.now in let n = numbers_of p in Steps p (step_given (program_of p) (statement_frame_of n frame.entry) (given_of given.entry)) result state.old state.new }
+        ensures { let p = self.now.program.now in let n = table_of p in Steps p (step_given (program_of p) (statement_frame_of n frame.entry) (given_of given.entry)) result state.old state.new }
     {
         match frame {
             StatementFrame::Branch(level, a, b) => self.branch_given(state, level, a, b, given),
@@ -220,7 +219,7 @@ impl<'p> Machine<'p> {
         frame: StatementFrame<'p>,
         e: Exception,
     ) -> Result<Next<'p>, Halt>
-        ensures { let p = self.now.program.now in let n = numbers_of p in Steps p (step_thrown (program_of p) (statement_frame_of n frame.entry) (exception_of e)) result state.old state.new }
+        ensures { let p = self.now.program.now in let n = table_of p in Steps p (step_thrown (program_of p) (statement_frame_of n frame.entry) (exception_of e)) result state.old state.new }
     {
         match frame {
             StatementFrame::Catching(level, h) => {

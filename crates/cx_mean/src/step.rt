@@ -1,7 +1,7 @@
 //! One step: of a task, or of a frame that is given something or passed by an exception.
 ghost use Rattle.cx_plain.specs.Step.{step_task, step_given, step_thrown};
 ghost use Rattle.cx_plain_state.specs.Seen.{exception_of};
-ghost use Rattle.cx_mean.specs.Seen.{numbers_of, program_of};
+ghost use Rattle.cx_mean.specs.Seen.{table_of, program_of};
 ghost use Rattle.cx_mean.specs.Tasks.{task_of};
 ghost use Rattle.cx_mean.specs.Frames.{given_of, waiting_of};
 ghost use Rattle.cx_mean.specs.Steps.{Steps};
@@ -15,7 +15,7 @@ use cx_plain_state::{Exception, Halt, State};
 impl<'p> Machine<'p> {
     /// One step of a task.
     pub(crate) fn task(&self, state: &mut State<'p>, task: Task<'p>) -> Result<Next<'p>, Halt>
-        ensures { let p = self.now.program.now in let n = numbers_of p in Steps p (step_task (program_of p) (task_of n task.entry)) result state.old state.new }
+        ensures { let p = self.now.program.now in let n = table_of p in Steps p (step_task (program_of p) (task_of n task.entry)) result state.old state.new }
     {
         match task {
             Task::Expression(task) => self.expression_task(state, task),
@@ -33,7 +33,7 @@ impl<'p> Machine<'p> {
         frame: Waiting<'p>,
         given: Given<'p>,
     ) -> Result<Next<'p>, Halt>
-        ensures { let p = self.now.program.now in let n = numbers_of p in Steps p (step_given (program_of p) (waiting_of n frame.entry) (given_of given.entry)) result state.old state.new }
+        ensures { let p = self.now.program.now in let n = table_of p in Steps p (step_given (program_of p) (waiting_of n frame.entry) (given_of given.entry)) result state.old state.new }
     {
         match frame {
             Waiting::Operand(frame) => self.operand_given(state, frame, given),
@@ -53,7 +53,7 @@ impl<'p> Machine<'p> {
         frame: Waiting<'p>,
         e: Exception,
     ) -> Result<Next<'p>, Halt>
-        ensures { let p = self.now.program.now in let n = numbers_of p in Steps p (step_thrown (program_of p) (waiting_of n frame.entry) (exception_of e)) result state.old state.new }
+        ensures { let p = self.now.program.now in let n = table_of p in Steps p (step_thrown (program_of p) (waiting_of n frame.entry) (exception_of e)) result state.old state.new }
     {
         match frame {
             Waiting::Operand(_) => Err(Halt::Thrown(e)),

@@ -19,9 +19,21 @@ pub(crate) struct Level {
 #[derive(Drop)]
 pub(crate) struct Call<'p> {
     pub function: u32,
+    /// The unit that checks the function's contract assertions as Caller.
+    pub caller: Option<u32>,
+    /// The unit whose code evaluates the call.
     pub unit: u32,
+    /// The violation that makes this call of its handler.
+    pub reports: Option<Report<'p>>,
     pub arguments: Vec<Value<'p>>,
     pub result: Option<Value<'p>>,
+}
+
+/// What is called: a function by its name, or what the value of a pointer holds.
+#[derive(Clone, Copy)]
+pub(crate) enum Callee<'p> {
+    ByName(u32),
+    ByPointer(Value<'p>),
 }
 
 /// An assertion of the program with its predicate.
@@ -142,13 +154,15 @@ pub(crate) enum CallTask<'p> {
     /// With so many implicit and counted calls left.
     Calling(u64, u32, Call<'p>),
     Counted(u32, Call<'p>),
-    /// Of a function, on an object or none, with the place of the result object or none.
-    CallOf(Level, u32, Option<Address>, &'p [Argument], Option<Value<'p>>),
+    /// On an object or none, with the place of the result object or none.
+    CallOf(Level, Callee<'p>, Option<Address>, &'p [Argument], Option<Value<'p>>),
     /// With a result object by its number.
-    CallInto(Level, u32, &'p [Argument], u64),
-    CallOn(Level, u32, Address, Vec<Value<'p>>),
+    CallInto(Level, Callee<'p>, &'p [Argument], u64),
+    /// By a constructor.
+    ConstructAt(Level, u32, Address, Vec<Value<'p>>),
     Before(Level, &'p Function, Call<'p>),
     After(Level, &'p Function, Call<'p>),
+    CallerBefore(Level, Call<'p>),
     CallerAfter(Level, Call<'p>),
     Body(Level, ResultKind, &'p [Statement]),
 }

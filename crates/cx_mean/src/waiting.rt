@@ -1,9 +1,9 @@
 use crate::program::Function;
-use crate::task::{Call, Keeper, Level, Loop, Task};
+use crate::task::{Call, Callee, Keeper, Level, Loop, Task};
 use cx_code::Semantic;
 use cx_core::{
-    Argument, Assertion, BinaryOperator, Expression, Handler, IntegerType, Operand, Query,
-    ResultKind, Statement, UnaryOperator,
+    Argument, Assertion, BinaryOperator, Expression, Handler, IntegerType, Operand, PointedResult,
+    Query, ResultKind, Statement, UnaryOperator,
 };
 use cx_plain_state::{Address, Exception, Frame, Living, ObjectType, Value};
 
@@ -91,8 +91,12 @@ pub(crate) enum ArgumentFrame<'p> {
     ReferenceArgument(Level, &'p [Argument]),
     ObjectArgument(Level, &'p [Argument]),
     FirstArgument(Value<'p>),
-    CallWith(Level, u32, Option<Value<'p>>),
-    CallIntoObject(Level, u32, u64),
+    /// For a pointer that is called, by what it gives.
+    CallThrough(Level, PointedResult, &'p [Argument]),
+    /// For a pointer whose call initialises an object.
+    ResultThrough(Level, &'p [Argument], Address),
+    CallWith(Level, Callee<'p>, Option<Value<'p>>),
+    CallIntoObject(Level, Callee<'p>, u64),
     ReadResult(u64),
     EndResult(u64),
     EndObject(u64),

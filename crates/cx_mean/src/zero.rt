@@ -1,11 +1,11 @@
 //! Zero-initialisation [dcl.init.general].
 ghost use Rattle.std.specs.Prelude.{map};
-ghost use Rattle.cx_core.specs.Linked.{leaf_kind};
+ghost use Rattle.cx_core.specs.View.{leaf_kind};
 ghost use Rattle.cx_core.specs.Statements.{zero_object};
 ghost use Rattle.cx_plain.specs.Step.{no_calls};
 ghost use Rattle.cx_plain_state.specs.Ran.{Ran, unit_of};
 ghost use Rattle.cx_plain_state.specs.Seen.{state_of, address_of};
-ghost use Rattle.cx_mean.specs.Seen.{numbers_of, program_of, class_of};
+ghost use Rattle.cx_mean.specs.Seen.{table_of, program_of, class_of};
 ghost use Rattle.cx_mean.specs.Parts.{number_zeroed, pointer_zeroed, leaf_zeroed, leaves_zeroed, class_zeroed};
 
 use crate::machine::Machine;
@@ -61,7 +61,7 @@ fn zero_leaves(state: &mut State<'_>, a: Address, leaves: &[LeafKind]) -> Result
 #[tactic(auto, unfolding(cx_core::specs::Outcome::either, cx_core::specs::Outcome::gives, cx_core::specs::Outcome::ends))]
 impl<'p> Machine<'p> {
     fn zero_class(&self, state: &mut State<'p>, class: &Class, a: Address) -> Result<(), Halt>
-        ensures { Ran unit_of (class_zeroed (class_of (numbers_of self.now.program.now) class.now) (address_of a) (state_of state.old)) result (state_of state.new) }
+        ensures { Ran unit_of (class_zeroed (class_of class.now) (address_of a) (state_of state.old)) result (state_of state.new) }
     {
         zero_leaves(state, a, class.definition.leaves.items())?;
         state.spend_all(class.definition.objects)

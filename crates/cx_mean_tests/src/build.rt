@@ -90,3 +90,14 @@ pub fn class(number: u32) -> ValueType {
         reference: false,
     }
 }
+
+/// A pointer to functions of this type, by the type's number.
+pub fn pointer_to_function(number: u32) -> ValueType {
+    ValueType {
+        base: Base::Function(number),
+        constant: false,
+        pointers: 0,
+        pointer_consts: 0,
+        reference: false,
+    }
+}

@@ -9,6 +9,8 @@ mod programs;
 #[cfg(test)]
 mod rows;
 #[cfg(test)]
+mod state;
+#[cfg(test)]
 mod tests;
 #[cfg(test)]
 mod told;

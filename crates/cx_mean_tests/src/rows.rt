@@ -1,10 +1,12 @@
 pub mod assertions;
 pub mod blocks;
+pub mod budgets;
 pub mod depth;
 pub mod exceptions;
 pub mod expressions;
 pub mod handlers;
 pub mod objects;
+pub mod pointers;
 
 use crate::programs::Worked;
 

@@ -1,8 +1,10 @@
 use crate::build::{Build, Made};
 use crate::programs::Worked;
 use crate::programs::chain::{Units, begins_of_chain, chain_of};
+use crate::rows::budgets::Spent;
 use crate::rows::{
-    LARGE, Row, assertions, blocks, depth, exceptions, expressions, handlers, objects,
+    LARGE, Row, assertions, blocks, budgets, depth, exceptions, expressions, handlers, objects,
+    pointers,
 };
 use crate::told::{Counts, begins_in, counted, told};
 use cx_code::{Ending, Party, Semantic};
@@ -12,14 +14,25 @@ use cx_plain_state::{Answer, Evaluation};
 use std::alloc::Global;
 use std::test::Fail;
 
+/// A run of a program, as text.
+fn run_under(
+    alloc: Global,
+    program: &Program,
+    begins: &[Evaluation],
+    input: &[u8],
+    budget: u64,
+) -> Made<String> {
+    match mean_of(alloc, program, begins, input, budget) {
+        Ok(meaning) => told(alloc, &meaning),
+        Err(_) => Err(NoMemory),
+    }
+}
+
 /// The run of a row's program, as text.
 fn run_of(alloc: Global, row: Row) -> Made<String> {
     let program = row.of.program(Build { alloc })?;
     let begins = begins_in(alloc, row.begins.unwrap_or(row.told))?;
-    match mean_of(alloc, &program, begins.as_slice(), row.input, row.budget) {
-        Ok(meaning) => told(alloc, &meaning),
-        Err(_) => Err(NoMemory),
-    }
+    run_under(alloc, &program, begins.as_slice(), row.input, row.budget)
 }
 
 /// The first row whose program has another run, by its index, and that run.
@@ -72,6 +85,48 @@ fn violation_handlers_are_told_of_the_violation_and_may_throw(rt: HostRuntime) -
 #[test]
 fn calls_are_at_most_4096_deep(rt: HostRuntime) -> Result<(), Fail> {
     assert_eq!(rt; first_other(rt.alloc(), depth::ROWS)?, None);
+    Ok(())
+}
+
+#[test]
+fn calls_through_pointers_have_the_definer_alone(rt: HostRuntime) -> Result<(), Fail> {
+    assert_eq!(rt; first_other(rt.alloc(), pointers::ROWS)?, None);
+    Ok(())
+}
+
+/// Whether a run goes on, behind some of these lines.
+fn is_going(run: &str, lines: &str) -> bool {
+    match run.strip_suffix("going\n") {
+        Some(front) => lines.starts_with(front),
+        None => false,
+    }
+}
+
+/// The first budget under which a program's run is another than its units say, and that run.
+fn first_other_budget(alloc: Global, spent: Spent) -> Made<Option<(u64, String)>> {
+    let program = spent.of.program(Build { alloc })?;
+    let begins = begins_in(alloc, spent.told)?;
+    for budget in 0..=spent.units {
+        let run = run_under(alloc, &program, begins.as_slice(), b"", budget)?;
+        if !is_going(run.as_str(), spent.told) {
+            return Ok(Some((budget, run)));
+        }
+    }
+    let budget = spent.units.saturating_add(1);
+    let run = run_under(alloc, &program, begins.as_slice(), b"", budget)?;
+    if run.as_str() != spent.told {
+        return Ok(Some((budget, run)));
+    }
+    Ok(None)
+}
+
+#[test]
+fn a_run_goes_on_until_its_units_are_spent(rt: HostRuntime) -> Result<(), Fail> {
+    let alloc = rt.alloc();
+    assert_eq!(rt; first_other(alloc, budgets::ROWS)?, None);
+    for (index, spent) in budgets::SPENT.iter().enumerate() {
+        assert_eq!(rt; first_other_budget(alloc, *spent)?, None, "{index}");
+    }
     Ok(())
 }
 

@@ -7,6 +7,10 @@ use Rattle.cx_outside.specs.declared.adapters.standard.StdSink.{StdSink}
 abbrev pub disk_faults : {R File Dir : Type 0} → DiskFiles R File Dir → ℕ
 disk_faults files = files.faults
 
+-- of the calls of `put` alone
+abbrev pub disk_put_faults : {R File Dir : Type 0} → DiskFiles R File Dir → ℕ
+disk_put_faults files = files.put_faults
+
 abbrev pub source_faults : {R : Type 0} → StdSource R → ℕ
 source_faults source = source.faults
 

@@ -5,6 +5,3 @@ pub mod laws;
 mod recognizer;
 
 pub use recognizer::{ParseFault, recognize};
-
-#[cfg(test)]
-mod tests;

@@ -2,17 +2,18 @@
 use Rattle.std.proofs.Common.{◌≡◌, refl, ◌∙◌, ℕ, zero, suc, ◌+◌, Bool, true, false, if◌then◌else◌, List, [], ◌∷◌, length}
 use Rattle.std.specs.Prelude.{slice_get}
 use Rattle.cx_core.specs.Words.{Definer}
-use Rattle.cx_core.specs.Tree.{Stmts, done}
+use Rattle.cx_core.specs.Tree.{Check, Stmts, done}
 use Rattle.cx_core.specs.Program.{Program, Function, FieldInit, Field, Body, ResultKind, void}
 use Rattle.cx_core.specs.Program as parts
-use Rattle.cx_core.specs.Store.{Value, number, address, null, violation}
+use Rattle.cx_core.specs.Store.{Value, null}
 use Rattle.cx_core.specs.Event as event
 use Rattle.cx_core.specs.Event.{destroyed}
 use Rattle.cx_core.specs.Outcome.{State, Exception, Frame as ActiveFrame, Does, Nothing, either, ◌>>=◌, ◌>>◌, gives, throws, ends, some, edge, spend, append, current_frame, set_frame, current_living, set_living, place_of}
 use Rattle.cx_core.specs.Leaving.{Call, scope, class_at, edge_if, destroy_fields}
 use Rattle.cx_core.specs.Operators.{named}
 use Rattle.cx_core.specs.Statements.{this_place}
-use Rattle.cx_core.specs.Meaning.{checked, evaluated, used, stmts, body, value_given, preconditions, postconditions, field_inits, function_call, constructor_call, destructor_call, report, acting, active, numbered, unit_of, is_implicit_at, implicit_within, calls_within}
+use Rattle.cx_core.specs.Calls.{body, naming_result, destroy_result}
+use Rattle.cx_core.specs.Meaning.{checked, evaluated, used, stmts, preconditions, postconditions, field_inits, function_call, constructor_call, destructor_call, reported, acting, active, numbered, unit_of, is_implicit_at, implicit_within, calls_within}
 use Rattle.cx_plain.specs.Task as task
 use Rattle.cx_plain.specs.Task.{Level, value, Task, Frame, Next, go}
 use Rattle.cx_plain.specs.Step.{site_of, no_calls, step_task, step_acting, step_destructor, step_active, step_calling, step_counted, doing, in_construction}
@@ -21,10 +22,10 @@ use Rattle.cx_plain.proofs.Denoted.{Rest, with_rest, valued_rest, at, task_means
 use Rattle.cx_plain.proofs.Opened.{open_scope, open_construction, IsSteady, steady_some, steady_place_of, steady_named, both_steady, steady_then}
 use Rattle.cx_plain.proofs.ExpressionSteps.{expression_steps}
 use Rattle.cx_plain.proofs.StatementSteps.{used_steps, initialise_steps, arguments_steps, call_of_steps, call_into_steps, evaluated_steps, declaring_steps, statement_steps, statements_steps, block_steps, handling_steps, testing_steps, looping_steps, turns_steps}
-use Rattle.cx_plain.proofs.ObjectSteps.{evaluations_steps, checks_steps, edged_checks_steps, handling_violation_steps, before_steps, after_steps, caller_after_steps, call_on_steps, destroying_steps, destroying_fields_steps, destroying_each_steps, ending_steps, ending_each_steps, making_steps, field_inits_steps, default_fields_steps, copying_fields_steps, copying_members_steps, copying_object_steps}
+use Rattle.cx_plain.proofs.ObjectSteps.{evaluations_steps, checks_steps, edged_checks_steps, handling_violation_steps, before_steps, after_steps, caller_steps, construct_at_steps, destroying_steps, destroying_fields_steps, destroying_each_steps, ending_steps, ending_each_steps, making_steps, field_inits_steps, default_fields_steps, copying_fields_steps, copying_members_steps, copying_object_steps}
 
 module _ (program : Program) where
-  pub body_steps : (level : Level) (kind : ResultKind) (b : Stmts) (k : Rest)
+  pub body_steps : (level : Level) (kind : ResultKind) (b : Stmts Check) (k : Rest)
       → Steps program (task_means program (task.body level kind b) k) (step_task program (task.body level kind b)) k
   unfolding either gives throws ends
   body_steps level kind b k = flow (scope program (at program level) (stmts program (at program level) b)) _ _ _
@@ -39,34 +40,22 @@ module _ (program : Program) where
   abbrev Acts : (level : Level) → Does Value → List Frame → Does Next → Rest → Type 0
   Acts level m frames next k = with_rest value m (under program frames k) ≡ either next (λ n. next_means program n k) k.on_thrown
 
-  function_steps : (level : Level) (f : Function) (c : Call) (b : Stmts) (frames : List Frame) (k : Rest)
+  function_steps : (level : Level) (f : Function) (c : Call) (b : Stmts Check) (frames : List Frame) (k : Rest)
       → Acts level (edge_if f.noexcept (function_call program (at program level) f c b)) frames (step_acting program level (parts.function b) f c frames) k
   unfolding either gives throws ends
   function_steps level f c b frames k =
       edge_if_flow f.noexcept (function_call program (at program level) f c b) _ _
       ∙ flow (preconditions program (at program level) f c) _ _ _
-      ∙ (λ i. either (preconditions program (at program level) f c) (λ _. flow (body program (at program level) f.result b) (λ v.
+      ∙ (λ i. either (preconditions program (at program level) f c) (λ _. flow (body program (at program level) f.result (stmts program (at program level) b)) (λ v.
       undone_by' v >> gives v) (λ v. (under program (task.edge_if f.noexcept ∷ frames) k).on_given (value v)) (under program (task.edge_if f.noexcept ∷ frames) k).on_thrown i)
       (under program (task.edge_if f.noexcept ∷ frames) k).on_thrown)
     where
       undone_by' : Value → Does Nothing
       undone_by' v = Rattle.cx_core.specs.Outcome.undone_by
-          (Rattle.cx_core.specs.Meaning.naming_result program (at program level) f.result v (postconditions program (at program level) f c))
-          (Rattle.cx_core.specs.Meaning.destroy_result program (at program level) f.result c.result)
+          (naming_result program (at program level) f.result v (postconditions program (at program level) f c))
+          (destroy_result program (at program level) f.result c.result)
 
-  report_steps : (level : Level) (f : Function) (c : Call) (b : Stmts) (arguments : List Value) (frames : List Frame) (k : Rest)
-      → Acts level (report program (at program level) arguments >> edge_if f.noexcept (body program (at program level) void b)) frames
-      (report program no_calls arguments >> doing (task.body level void b) (task.edge_if f.noexcept ∷ frames)) k
-  unfolding either gives throws ends append
-  report_steps level f c b [] frames k = refl
-  report_steps level f c b (number n ∷ arguments) frames k = refl
-  report_steps level f c b (address a ∷ arguments) frames k = refl
-  report_steps level f c b (null ∷ arguments) frames k = refl
-  report_steps level f c b (violation v ∷ arguments) frames k = λ i s.
-      edge_if_flow f.noexcept (body program (at program level) void b) (λ v. (under program frames k).on_given (value v)) (under program frames k).on_thrown i
-      (record s { trace = event.handler v ∷ s.trace })
-
-  constructor_steps : (level : Level) (f : Function) (c : Call) (fields : List FieldInit) (b : Stmts) (frames : List Frame) (k : Rest)
+  constructor_steps : (level : Level) (f : Function) (c : Call) (fields : List FieldInit) (b : Stmts Check) (frames : List Frame) (k : Rest)
       → Acts level (edge_if f.noexcept (constructor_call program (at program level) f c fields b)) frames (step_acting program level (parts.constructor fields b) f c frames) k
   unfolding either gives throws ends
   constructor_steps level f c fields b frames k =
@@ -97,7 +86,7 @@ module _ (program : Program) where
           ∙ (λ i. either (scope program (at program level) (stmts program (at program level) b)) (λ _.
           flow (postconditions program (at program level) f c) (λ _. gives null) (λ v. k.on_given (value v)) k.on_thrown i) k.on_thrown)) i) k.on_thrown)) i) k.on_thrown)
 
-  destructor_steps : (level : Level) (f : Function) (t : ℕ) (b : Stmts) (frames : List Frame) (k : Rest)
+  destructor_steps : (level : Level) (f : Function) (t : ℕ) (b : Stmts Check) (frames : List Frame) (k : Rest)
       → Acts level (destructor_call program (at program level) f t b) frames (step_destructor program level f t b frames) k
   unfolding either gives throws ends
   destructor_steps level f t b frames k = both_steady (this_place program no_calls) steady_this _ _ _ _ _ _ (λ a.
@@ -139,10 +128,9 @@ module _ (program : Program) where
       both_steady (named 1 >>= place_of) (steady_then (named 1) _ (steady_named 1) (λ v. steady_place_of v)) _ _ _ _ _ _ (λ source.
       flow (Rattle.cx_core.specs.Meaning.copy_members program (at program level) definition.fields source to) _ _ _))))
 
-  acting_steps : (level : Level) (b : Body) (f : Function) (c : Call) (frames : List Frame) (k : Rest)
+  acting_steps : (level : Level) (b : Body Check) (f : Function) (c : Call) (frames : List Frame) (k : Rest)
       → Acts level (acting program (at program level) b f c) frames (step_acting program level b f c frames) k
   acting_steps level (parts.function b) f c frames k = function_steps level f c b frames k
-  acting_steps level (parts.violation_handler b) f c frames k = report_steps level f c b c.arguments frames k
   acting_steps level (parts.constructor fields b) f c frames k = constructor_steps level f c fields b frames k
   acting_steps level (parts.destructor t b) f c frames k = destructor_steps level f t b frames k
   acting_steps level (parts.implicit_constructor t) f c frames k = implicit_constructor_steps level t frames k
@@ -153,10 +141,11 @@ module _ (program : Program) where
 
   active_steps : (level : Level) (c : Call) (k : Rest) → Steps program (valued_rest (active program (at program level) c) k) (step_active program level c) k
   unfolding either gives throws ends current_frame set_frame
-  active_steps level c k = both spend _ _ _ _ _ (λ _. both (some (slice_get program.functions c.function)) _ _ _ _ _ (λ f. λ i s.
+  active_steps level c k = both spend _ _ _ _ _ (λ _. both (some (slice_get program.functions c.function)) _ _ _ _ _ (λ f.
+      both (reported program no_calls c.reports) _ _ _ _ _ (λ _. λ i s.
       (finally_flow (acting program (at program level) f.body f c) (set_frame s.frame) (λ v. k.on_given (value v)) k.on_thrown
       ∙ acting_steps level f.body f c (task.within s.frame ∷ []) k) i
-      (record s { frame = record { unit = unit_of program no_calls f c; variables = numbered program no_calls 0 c.arguments; result = c.result } })))
+      (record s { frame = record { unit = unit_of program no_calls f c; variables = numbered program no_calls 0 c.arguments; result = c.result } }))))
 
   implicit_steps : (implicit : Bool) (n depth : ℕ) (c : Call) (k : Rest)
       → Steps program
@@ -200,9 +189,9 @@ module _ (program : Program) where
   task_steps (task.handling level h e) k = handling_steps program level h e k
   task_steps (task.calling implicit depth c) k = calling_steps implicit depth c k
   task_steps (task.counted depth c) k = counted_steps depth c k
-  task_steps (task.call_of level f this a result) k = call_of_steps program level f this a result k
-  task_steps (task.call_into level f a n) k = call_into_steps program level f a n k
-  task_steps (task.call_on level f a arguments) k = call_on_steps program level f a arguments k
+  task_steps (task.call_of level callee this a result) k = call_of_steps program level callee this a result k
+  task_steps (task.call_into level callee a n) k = call_into_steps program level callee a n k
+  task_steps (task.construct_at level f a arguments) k = construct_at_steps program level f a arguments k
   task_steps (task.destroying level c a) k = destroying_steps program level c a k
   task_steps (task.destroying_each level a fields) k = destroying_each_steps program level a fields k
   task_steps (task.destroying_fields level c a) k = destroying_fields_steps program level c a k
@@ -219,7 +208,8 @@ module _ (program : Program) where
   task_steps (task.handling_violation level v) k = handling_violation_steps program level v k
   task_steps (task.before level f c) k = before_steps program level f c k
   task_steps (task.after level f c) k = after_steps program level f c k
-  task_steps (task.caller_after level c) k = caller_after_steps program level c k
+  task_steps (task.caller_before level c) k = caller_steps program level (λ checks. checks.preconditions) c.caller c.function k
+  task_steps (task.caller_after level c) k = caller_steps program level (λ checks. checks.postconditions) c.caller c.function k
   task_steps (task.body level kind b) k = body_steps level kind b k
   task_steps (task.field_inits level fields) k = field_inits_steps program level fields k
   task_steps (task.default_fields level fields) k = default_fields_steps program level fields k

@@ -1,19 +1,20 @@
 -- What a task and a frame mean: the part of the meaning that they stand for.
 use Rattle.std.proofs.Common.{◌≡◌, ℕ, not, if◌then◌else◌, List, [], ◌∷◌, Option, Some, None}
 use Rattle.std.specs.Prelude.{map}
-use Rattle.cx_core.specs.Words.{Mixed, Party, Definer, Caller, Terminated, ContractTerminated}
-use Rattle.cx_core.specs.Tree.{Stmt}
+use Rattle.cx_core.specs.Words.{Mixed, Party, Definer, Terminated, ContractTerminated}
+use Rattle.cx_core.specs.Tree.{Check, Stmt}
 use Rattle.cx_core.specs.Program.{Program, Function}
 use Rattle.cx_core.specs.Store.{Address, Value, address, null}
 use Rattle.cx_core.specs.Event as event
 use Rattle.cx_core.specs.Event.{ended}
 use Rattle.cx_core.specs.Outcome.{State, Outcome, Exception, Does, Nothing, either, ◌>>=◌, ◌>>◌, gives, throws, ends, undefined, some, skip, edge, spend, current_frame, set_frame, current_living, set_living, current_temporaries, set_temporaries, current_held, set_held, append, end_lifetime, read, write, place_of}
-use Rattle.cx_core.specs.Leaving.{Call, Calls, in_unit, call_on, destroy, destroy_each, destroy_fields, end, end_each, scope, object, end_unless_among}
+use Rattle.cx_core.specs.Leaving.{Call, Calls, construct_at, destroy, destroy_each, destroy_fields, end, end_each, scope, object, end_unless_among}
 use Rattle.cx_core.specs.Block.{Owed, evaluations}
 use Rattle.cx_core.specs.Check.{truth, handle, verdict_on, verdict_threw}
 use Rattle.cx_core.specs.Operators.{truth_value, operated, bind, stored, updated}
-use Rattle.cx_core.specs.Statements.{Completion, on_to_next, return, sequence, after_turn, turns, loop, call_of, call_into, variable_of, keep_field, type_name}
-use Rattle.cx_core.specs.Meaning.{expr, used, init, args, evaluated, condition, owed, checked, stmt, stmts, handlers, preconditions, postconditions, caller_checks, value_given, body, destroy_result, naming_result, field_inits, default_fields, copy_fields, copy_members, copy_object, object_place, implicit_within, calls_within}
+use Rattle.cx_core.specs.Statements.{Completion, on_to_next, return, sequence, after_turn, turns, loop, variable_of, keep_field, type_name}
+use Rattle.cx_core.specs.Calls.{by_pointer, call_to, call_of, call_into, call_through_giving, body, destroy_result, naming_result, value_given}
+use Rattle.cx_core.specs.Meaning.{expr, used, init, args, evaluated, condition, owed, checked, stmt, stmts, handlers, preconditions, postconditions, caller_row, field_inits, default_fields, copy_fields, copy_members, copy_object, object_place, implicit_within, calls_within}
 use Rattle.cx_plain.specs.Task as task
 use Rattle.cx_plain.specs.Task.{Level, Given, value, nothing, values, number, completion, Left, given, thrown, Operation, Keeper, Loop, Due, Task, Frame, Next, go}
 use Rattle.cx_plain.specs.Step.{on_value, on_truth, on_values, on_number, on_completion, applied, keeps, bind_object}
@@ -50,7 +51,7 @@ module _ (program : Program) where
   abbrev pub owed_of : Level → Party → Due → Owed
   owed_of level party d = record (owed program (at level) party d.check) { left = d.left }
 
-  abbrev pub step_of : Level → Option Stmt → Does Completion
+  abbrev pub step_of : Level → Option (Stmt Check) → Does Completion
   step_of level None = gives on_to_next
   step_of level (Some s) = stmt program (at level) s
 
@@ -66,9 +67,6 @@ module _ (program : Program) where
   abbrev pub leaves_full : Level → List Rattle.cx_core.specs.Outcome.Living → Does Nothing
   leaves_full level outer = current_temporaries >>= end_each program (at level) >> set_temporaries outer
 
-  abbrev pub caller_after_of : Level → Call → Does Nothing
-  caller_after_of level c = in_unit c.unit (checked program (at level) Caller (caller_checks program (at level) c).postconditions)
-
   abbrev pub task_means : Task → Rest → Does Value
   task_means (task.expression level e) k = valued_rest (expr program (at level) e) k
   task_means (task.used level a) k = valued_rest (used program (at level) a) k
@@ -83,9 +81,9 @@ module _ (program : Program) where
   task_means (task.handling level h e) k = completed_rest (handlers program (at level) h e) k
   task_means (task.calling implicit depth c) k = valued_rest (implicit_within program implicit (calls_within program depth) c) k
   task_means (task.counted depth c) k = valued_rest (calls_within program depth c) k
-  task_means (task.call_of level f this a result) k = valued_rest (call_of program (at level) f (this_then this (args program (at level) a)) result) k
-  task_means (task.call_into level f a n) k = valued_rest (call_into program (at level) f (args program (at level) a) n) k
-  task_means (task.call_on level f a arguments) k = silent_rest (call_on program (at level) f a arguments) k
+  task_means (task.call_of level callee this a result) k = valued_rest (call_of program (at level) callee (this_then this (args program (at level) a)) result) k
+  task_means (task.call_into level callee a n) k = valued_rest (call_into program (at level) callee (args program (at level) a) n) k
+  task_means (task.construct_at level f a arguments) k = silent_rest (construct_at program (at level) f a arguments) k
   task_means (task.destroying level c a) k = silent_rest (destroy program (at level) c a) k
   task_means (task.destroying_each level a fields) k = silent_rest (destroy_each program (at level) a fields) k
   task_means (task.destroying_fields level c a) k = silent_rest (destroy_fields program (at level) c a) k
@@ -103,8 +101,9 @@ module _ (program : Program) where
   task_means (task.handling_violation level v) k = silent_rest (handle program (at level) v) k
   task_means (task.before level f c) k = silent_rest (preconditions program (at level) f c) k
   task_means (task.after level f c) k = silent_rest (postconditions program (at level) f c) k
-  task_means (task.caller_after level c) k = silent_rest (caller_after_of level c) k
-  task_means (task.body level kind b) k = valued_rest (body program (at level) kind b) k
+  task_means (task.caller_before level c) k = silent_rest (caller_row program (at level) (λ checks. checks.preconditions) c.caller c.function) k
+  task_means (task.caller_after level c) k = silent_rest (caller_row program (at level) (λ checks. checks.postconditions) c.caller c.function) k
+  task_means (task.body level kind b) k = valued_rest (body program (at level) kind (stmts program (at level) b)) k
   task_means (task.field_inits level fields) k = silent_rest (field_inits program (at level) fields) k
   task_means (task.default_fields level fields) k = silent_rest (default_fields program (at level) fields) k
   task_means (task.copying_fields level source fields) k = silent_rest (copy_fields program (at level) source fields) k
@@ -136,12 +135,13 @@ module _ (program : Program) where
   given_means (task.object_argument level rest) g k =
       on_number g (λ n. with_rest values (args program (at level) rest >>= (λ vs. gives (object_place n ∷ vs))) k)
   given_means (task.first_argument v) g k = on_values g (λ vs. k.on_given (values (v ∷ vs)))
-  given_means (task.call_with level f result) g k = on_values g (λ vs. valued_rest (do
-    frame ← current_frame
-    at level (record { function = f; unit = frame.unit; arguments = vs; result = result })) k)
-  given_means (task.call_into_object level f n) g k = on_values g (λ vs. valued_rest (do
-    frame ← current_frame
-    at level (record { function = f; unit = frame.unit; arguments = vs; result = Some (object_place n) })
+  given_means (task.call_through level kind a) g k =
+      on_value g (λ p. valued_rest (call_through_giving program (at level) kind p (args program (at level) a)) k)
+  given_means (task.result_through level a place) g k =
+      on_value g (λ p. silent_rest (call_of program (at level) (by_pointer p) (args program (at level) a) (Some (address place)) >> skip) k)
+  given_means (task.call_with level callee result) g k = on_values g (λ vs. valued_rest (call_to program (at level) callee vs result) k)
+  given_means (task.call_into_object level callee n) g k = on_values g (λ vs. valued_rest (do
+    call_to program (at level) callee vs (Some (object_place n))
     read (record { object = n; leaf = 0 })) k)
   given_means (task.read_result n) g k = valued_rest (read (record { object = n; leaf = 0 })) k
   given_means (task.end_result n) g k = on_value g (λ v. valued_rest (end_lifetime n >> gives v) k)

@@ -2,17 +2,17 @@
 use Rattle.std.proofs.Common.{refl, sym, ◌∙◌, ℕ, Option, Some, None}
 use Rattle.std.specs.Prelude.{slice_get}
 use Rattle.cx_core.specs.Tree as tree
-use Rattle.cx_core.specs.Tree.{Expr, Operand, operand, Init, Args, no_more, by_reference, by_value}
+use Rattle.cx_core.specs.Tree.{PointedResult, void_result, scalar_result, reference_result, Expr, Operand, operand, Init, Args, no_more, by_reference, by_value}
 use Rattle.cx_core.specs.Program.{Program, ResultKind, void, scalar_value, scalar_object, class_object, reference, exit_status, Function}
 use Rattle.cx_core.specs.Store.{Value}
 use Rattle.cx_core.specs.Outcome.{Does, either, ◌>>=◌, ◌>>◌, gives, throws, ends, some, make, end_lifetime, keep_temporary, undone_by}
 use Rattle.cx_core.specs.Leaving.{object}
 use Rattle.cx_core.specs.Check.{truth}
-use Rattle.cx_core.specs.Statements.{call_into, call_giving}
+use Rattle.cx_core.specs.Calls.{Callee, by_name, by_pointer, call_into, call_with_object, call_giving, call_through_giving}
 use Rattle.cx_core.specs.Meaning.{expr, used, init, args}
 use Rattle.cx_plain.specs.Task as task
 use Rattle.cx_plain.specs.Task.{Level, Given, value, nothing, values, number, completion, Task, Frame, Next, go}
-use Rattle.cx_plain.specs.Step.{answered, valued, step_expression, step_call}
+use Rattle.cx_plain.specs.Step.{answered, valued, step_expression, step_with_object, step_call, step_call_through}
 use Rattle.cx_plain.proofs.Flow.{flow, both, undone_flow}
 use Rattle.cx_plain.proofs.Denoted.{Rest, with_rest, valued_rest, at, task_means, next_means, Steps}
 
@@ -25,12 +25,24 @@ module _ (program : Program) where
   valued_steps : (m : Does Value) (k : Rest) → Steps program (valued_rest m k) (valued m) k
   valued_steps m k = answered_steps value m k
 
+  object_steps : (level : Level) (callee : Callee) (a : Args) (k : Rest)
+      → Steps program (valued_rest (call_with_object program (at program level) callee (args program (at program level) a)) k) (step_with_object program level callee a) k
+  unfolding either gives throws ends
+  object_steps level callee a k = both (make 1) _ _ _ _ _ (λ n.
+      flow (undone_by (call_into program (at program level) callee (args program (at program level) a) n) (end_lifetime n)) (λ v. end_lifetime n >> gives v) _ _
+      ∙ undone_flow (call_into program (at program level) callee (args program (at program level) a) n) (end_lifetime n) _ _)
+
+  pub through_steps : (level : Level) (kind : PointedResult) (p : Value) (a : Args) (k : Rest)
+      → Steps program (valued_rest (call_through_giving program (at program level) kind p (args program (at program level) a)) k) (step_call_through program level kind p a) k
+  unfolding either gives throws ends
+  through_steps level scalar_result p a k = object_steps level (by_pointer p) a k
+  through_steps level void_result p a k = refl
+  through_steps level reference_result p a k = refl
+
   call_steps : (level : Level) (kind : ResultKind) (f : ℕ) (a : Args) (k : Rest)
       → Steps program (valued_rest (call_giving program (at program level) kind f (args program (at program level) a)) k) (step_call program level kind f a) k
   unfolding either gives throws ends
-  call_steps level scalar_object f a k = both (make 1) _ _ _ _ _ (λ n.
-      flow (undone_by (call_into program (at program level) f (args program (at program level) a) n) (end_lifetime n)) (λ v. end_lifetime n >> gives v) _ _
-      ∙ undone_flow (call_into program (at program level) f (args program (at program level) a) n) (end_lifetime n) _ _)
+  call_steps level scalar_object f a k = object_steps level (by_name f) a k
   call_steps level void f a k = refl
   call_steps level scalar_value f a k = refl
   call_steps level (class_object t) f a k = refl
@@ -51,6 +63,7 @@ module _ (program : Program) where
   expression_steps level (tree.variable slot) k = valued_steps _ k
   expression_steps level (tree.global i) k = valued_steps _ k
   expression_steps level tree.this k = valued_steps _ k
+  expression_steps level (tree.function_name f) k = valued_steps _ k
   expression_steps level tree.result_name k = valued_steps _ k
   expression_steps level tree.exception_object k = valued_steps _ k
   expression_steps level (tree.unary operator type a) k = flow (used program (at program level) a) _ _ _
@@ -66,6 +79,7 @@ module _ (program : Program) where
   expression_steps level (tree.indirection a) k = flow (used program (at program level) a) _ _ _
   expression_steps level (tree.member leaf a) k = flow (expr program (at program level) a) _ _ _
   expression_steps level (tree.call f a) k = call_expression_steps level (slice_get program.functions f) f a k
+  expression_steps level (tree.call_through kind p a) k = flow (used program (at program level) p) _ _ _
   expression_steps level (tree.temporary type i) k = flow (object program (at program level) keep_temporary type (init program (at program level) i)) _ _ _
   expression_steps level (tree.putchar a) k = flow (used program (at program level) a) _ _ _
   expression_steps level tree.getchar k = valued_steps _ k

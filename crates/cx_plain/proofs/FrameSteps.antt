@@ -2,23 +2,24 @@
 use Rattle.std.proofs.Common.{◌≡◌, refl, sym, ◌∙◌, ℕ, Bool, true, false, not, if◌then◌else◌, List, [], ◌∷◌, Option, Some, None}
 use Rattle.cx_core.specs.Words.{Semantic, Ignore, Observe, Enforce, QuickEnforce, Holds, False, Threw, PredicateFalse, EvaluationException, Violation}
 use Rattle.cx_core.specs.Tree as tree
-use Rattle.cx_core.specs.Tree.{Operand, Assertion, Stmt}
+use Rattle.cx_core.specs.Tree.{Operand, Args, Assertion, Check, Stmt}
 use Rattle.cx_core.specs.Program.{Program, Function, ResultKind, void, scalar_value, scalar_object, class_object, reference, exit_status}
-use Rattle.cx_core.specs.Store.{Value}
+use Rattle.cx_core.specs.Store.{Value, address}
 use Rattle.cx_core.specs.Event as event
 use Rattle.cx_core.specs.Outcome.{State, Exception, Living, whole, Does, Nothing, either, ◌>>=◌, ◌>>◌, gives, throws, ends, some, spend, append, current_frame, set_frame, current_living, set_living, current_temporaries, set_temporaries, current_held, set_held, end_lifetime, read, place_of, undone_by, keep_temporary, write}
 use Rattle.cx_core.specs.Leaving.{Call, end, end_each, is_among, end_unless_among, holding}
 use Rattle.cx_core.specs.Check.{truth, verdict_on, verdict_threw, handle, violation_of}
 use Rattle.cx_core.specs.Operators.{truth_value, bind}
 use Rattle.cx_core.specs.Statements.{Completion, on_to_next, break, continue, return, after_turn, keep_field}
-use Rattle.cx_core.specs.Meaning.{expr, used, args, stmt, stmts, evaluated, checked, preconditions, postconditions, naming_result, destroy_result, value_given}
+use Rattle.cx_core.specs.Calls.{Callee, by_name, by_pointer, function_held, call_to, call_of, naming_result, destroy_result, value_given}
+use Rattle.cx_core.specs.Meaning.{expr, used, args, stmt, stmts, evaluated, checked, preconditions, postconditions}
 use Rattle.cx_plain.specs.Task as task
 use Rattle.cx_plain.specs.Task.{Level, Given, value, nothing, values, number, completion, Left, given, thrown, Loop, Task, Frame, Next, go}
-use Rattle.cx_plain.specs.Step.{site_of, answered, valued, silent, no_calls, on_value, on_truth, on_values, on_number, on_completion, applied, keeps, doing, giving, left_by, step_given, step_thrown, step_holding, step_verdict, step_violated, step_threw, step_postconditions, step_posted, step_turn_done, step_sequence}
+use Rattle.cx_plain.specs.Step.{site_of, answered, valued, silent, no_calls, on_value, on_truth, on_values, on_number, on_completion, applied, keeps, doing, giving, left_by, step_given, step_thrown, step_holding, step_verdict, step_violated, step_threw, step_postconditions, step_posted, step_call_to, step_turn_done, step_sequence}
 use Rattle.cx_plain.proofs.Flow.{flow, both, finally_flow, undone_flow}
-use Rattle.cx_plain.proofs.Denoted.{Rest, valued_rest, silent_rest, completed_rest, left_means, at, step_of, turns_of, given_means, thrown_means, next_means, Steps, leaves_scope, leaves_full}
-use Rattle.cx_plain.proofs.Opened.{open_holding}
-use Rattle.cx_plain.proofs.ExpressionSteps.{answered_steps}
+use Rattle.cx_plain.proofs.Denoted.{Rest, valued_rest, silent_rest, completed_rest, left_means, at, step_of, turns_of, given_means, thrown_means, under, next_means, Steps, leaves_scope, leaves_full}
+use Rattle.cx_plain.proofs.Opened.{open_holding, both_steady, steady_frame, steady_function_held}
+use Rattle.cx_plain.proofs.ExpressionSteps.{answered_steps, through_steps}
 
 module _ (program : Program) where
   -- ---- what is given is of one sort
@@ -89,7 +90,7 @@ module _ (program : Program) where
   chosen_steps level true b c k = refl
   chosen_steps level false b c k = refl
 
-  branch_steps : (level : Level) (x : Bool) (a b : Stmt) (k : Rest)
+  branch_steps : (level : Level) (x : Bool) (a b : Stmt Check) (k : Rest)
       → Steps program (completed_rest (if x then stmt program (at program level) a else stmt program (at program level) b) k)
       (if x then doing (task.statement level a) [] else doing (task.statement level b) []) k
   unfolding either gives
@@ -103,7 +104,7 @@ module _ (program : Program) where
   tested_steps level l n true k = flow (stmt program (at program level) l.body) _ _ _
   tested_steps level l n false k = refl
 
-  stepped_steps : (level : Level) (l : Loop) (n : ℕ) (step : Option Stmt) (k : Rest)
+  stepped_steps : (level : Level) (l : Loop) (n : ℕ) (step : Option (Stmt Check)) (k : Rest)
       → Steps program (completed_rest (step_of program level step >> turns_of program level l n) k)
       (gives (Rattle.cx_plain.specs.Step.after_turn_task level l n step)) k
   unfolding either gives throws ends
@@ -118,7 +119,7 @@ module _ (program : Program) where
   turn_done_steps level l n break k = refl
   turn_done_steps level l n (return v) k = refl
 
-  sequence_steps : (level : Level) (rest : tree.Stmts) (c : Completion) (k : Rest)
+  sequence_steps : (level : Level) (rest : tree.Stmts Check) (c : Completion) (k : Rest)
       → Steps program (completed_rest (Rattle.cx_core.specs.Statements.sequence (stmts program (at program level) rest) c) k) (step_sequence program level rest c) k
   unfolding either gives
   sequence_steps level rest on_to_next k = refl
@@ -235,6 +236,15 @@ module _ (program : Program) where
   posted_steps level exit_status place e k = refl
   posted_steps level (class_object t) place e k = both (some place >>= place_of) _ _ _ _ _ (λ a. refl)
 
+  -- ---- calls
+
+  call_to_steps : (level : Level) (callee : Callee) (arguments : List Value) (result : Option Value) (frames : List Frame) (k : Rest)
+      → Steps program (valued_rest (call_to program (at program level) callee arguments result) (under program frames k)) (step_call_to program level callee arguments result frames) k
+  unfolding either gives throws ends
+  call_to_steps level (by_name f) arguments result frames k = both_steady current_frame steady_frame _ _ _ _ _ _ (λ frame. refl)
+  call_to_steps level (by_pointer p) arguments result frames k = both_steady (function_held p) (steady_function_held p) _ _ _ _ _ _ (λ f.
+      both_steady current_frame steady_frame _ _ _ _ _ _ (λ frame. refl))
+
   -- ---- all frames
 
   pub given_steps : (f : Frame) (g : Given) (k : Rest) → Steps program (given_means program f g k) (step_given program f g) k
@@ -251,9 +261,13 @@ module _ (program : Program) where
   given_steps (task.reference_argument level rest) g k = on_value_steps g _ _ k (λ v. flow (args program (at program level) rest) _ _ _)
   given_steps (task.object_argument level rest) g k = on_number_steps g _ _ k (λ n. flow (args program (at program level) rest) _ _ _)
   given_steps (task.first_argument v) g k = on_values_steps g _ _ k (λ vs. refl)
-  given_steps (task.call_with level f result) g k = on_values_steps g _ _ k (λ vs. both current_frame _ _ _ _ _ (λ frame. refl))
-  given_steps (task.call_into_object level f n) g k = on_values_steps g _ _ k (λ vs. both current_frame _ _ _ _ _ (λ frame.
-      flow (at program level (record { function = f; unit = frame.unit; arguments = vs; result = Some (Rattle.cx_core.specs.Meaning.object_place n) })) _ _ _))
+  given_steps (task.call_through level kind a) g k = on_value_steps g _ _ k (λ p. through_steps program level kind p a k)
+  given_steps (task.result_through level a place) g k = on_value_steps g _ _ k (λ p.
+      flow (call_of program (at program level) (by_pointer p) (args program (at program level) a) (Some (address place))) _ _ _)
+  given_steps (task.call_with level callee result) g k = on_values_steps g _ _ k (λ vs. call_to_steps level callee vs result [] k)
+  given_steps (task.call_into_object level callee n) g k = on_values_steps g _ _ k (λ vs.
+      flow (call_to program (at program level) callee vs (Some (Rattle.cx_core.specs.Meaning.object_place n))) _ _ _
+      ∙ call_to_steps level callee vs (Some (Rattle.cx_core.specs.Meaning.object_place n)) (task.read_result n ∷ []) k)
   given_steps (task.read_result n) g k = answered_steps program value (read (record { object = n; leaf = 0 })) k
   given_steps (task.end_result n) g k = on_value_steps g _ _ k (λ v. answered_steps program value (end_lifetime n >> gives v) k)
   given_steps (task.end_object n) g k = answered_steps program (λ _. nothing) (end_lifetime n) k

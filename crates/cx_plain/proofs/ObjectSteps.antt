@@ -2,23 +2,23 @@
 use Rattle.std.proofs.Common.{◌≡◌, refl, sym, ap, ◌∙◌, ℕ, zero, suc, ◌+◌, Bool, true, false, if◌then◌else◌, List, [], ◌∷◌, Option, Some, None}
 use Rattle.std.specs.Prelude.{map}
 use Rattle.cx_core.specs.Words.{Party, Definer, Caller, Violation}
-use Rattle.cx_core.specs.Tree.{ObjectType, scalar, pointer, class, Init, Check}
-use Rattle.cx_core.specs.Program.{Program, Function, FieldInit, Field}
+use Rattle.cx_core.specs.Tree.{ObjectType, scalar, pointer, function_pointer, class, Init, Check, Specifier}
+use Rattle.cx_core.specs.Program.{Program, Checks, Function, FieldInit, Field}
 use Rattle.cx_core.specs.Store.{Address, Value, address, null, place_in}
 use Rattle.cx_core.specs.Store as store
 use Rattle.cx_core.specs.Event as event
 use Rattle.cx_core.specs.Event.{Evaluation, same_evaluation}
 use Rattle.cx_core.specs.Outcome.{Exception, Living, whole, field, Does, Nothing, either, ◌>>=◌, ◌>>◌, gives, throws, ends, some, spend, append, current_frame, set_frame, make, end_lifetime, undone_by}
-use Rattle.cx_core.specs.Leaving.{Call, scope, full_expression, in_unit, leaves_of_type, class_at, call_on, destroy}
+use Rattle.cx_core.specs.Leaving.{Call, scope, full_expression, in_unit, leaves_of_type, class_at, construct_at, destroy}
 use Rattle.cx_core.specs.Leaving as leaving
 use Rattle.cx_core.specs.Block.{Owed, total, evaluations, next_told, begin_told}
 use Rattle.cx_core.specs.Block as block
 use Rattle.cx_core.specs.Check.{truth, verdict_on, verdict_threw, handle_by}
 use Rattle.cx_core.specs.Statements.{this_place, field_of}
-use Rattle.cx_core.specs.Meaning.{init, evaluated, owed, checked, caller_checks, default_field, copy_object, copy_leaf}
+use Rattle.cx_core.specs.Meaning.{init, evaluated, owed, checked, caller_checks, caller_row, default_field, copy_object, copy_leaf}
 use Rattle.cx_plain.specs.Task as task
 use Rattle.cx_plain.specs.Task.{Level, Given, value, nothing, values, number, completion, Due, Keeper, Task, Frame, Next, go}
-use Rattle.cx_plain.specs.Step.{no_calls, bind_object, step_task, step_evaluations, step_handling_violation, step_ending, step_ending_each, step_destroying_each, step_field_inits, step_default_field, step_default_fields, step_copying_fields, step_copying_members, step_copying_object, first_due, due_in_all, continued, Continued, behind, once_less, has_stood, if_permitted, evaluation_of, doing, in_full_expression}
+use Rattle.cx_plain.specs.Step.{no_calls, bind_object, step_task, step_evaluations, step_handling_violation, step_caller, step_ending, step_ending_each, step_destroying_each, step_field_inits, step_default_field, step_default_fields, step_copying_fields, step_copying_members, step_copying_object, first_due, due_in_all, continued, Continued, behind, once_less, has_stood, if_permitted, evaluation_of, doing, in_full_expression}
 use Rattle.cx_plain.proofs.Flow.{flow, flow_either, both, edge_flow, undone_flow}
 use Rattle.cx_plain.proofs.Denoted.{Rest, silent_rest, at, owed_of, task_means, under, next_means, Steps}
 use Rattle.cx_plain.proofs.Opened.{open_full, open_unit}
@@ -27,8 +27,8 @@ use Rattle.cx_plain.proofs.ExpressionSteps.{answered_steps}
 module _ (program : Program) where
   -- ---- rows
 
-  abbrev check_of : Level → Check → Does Nothing
-  check_of level c = Rattle.cx_core.specs.Check.evaluation program (at program level) c (evaluated program (at program level) c.predicate)
+  abbrev check_of : Level → Specifier Check → Does Nothing
+  check_of level c = Rattle.cx_core.specs.Check.evaluation program (at program level) c.of (evaluated program (at program level) c.predicate)
 
   abbrev owes : Level → Party → Option Continued → Option block.Continued
   owes level party None = None
@@ -47,7 +47,7 @@ module _ (program : Program) where
   continued_same : (level : Level) (party : Party) (e : Evaluation) (due : List Due)
       → block.continued e (map (owed_of program level party) due) ≡ owes level party (continued party e due)
   continued_same level party e [] = refl
-  continued_same level party e (d ∷ due) = by_cases (same_evaluation e (evaluation_of party d.check)) (has_stood d) (continued_same level party e due)
+  continued_same level party e (d ∷ due) = by_cases (same_evaluation e (evaluation_of party d.check.of)) (has_stood d) (continued_same level party e due)
     where
       by_cases : (same stood : Bool) → block.continued e (map (owed_of program level party) due) ≡ owes level party (continued party e due)
           → (if same then block.once_less d.left (owed_of program level party d) (map (owed_of program level party) due)
@@ -61,7 +61,7 @@ module _ (program : Program) where
       → Steps program
       (silent_rest (block.if_permitted (owes level party o) (λ check more. spend >> begin_told >> check >> evaluations n more)) k)
       (if_permitted o (λ c more. spend >> (begin_told >>
-      doing (task.evaluated_truth level c.predicate) (task.verdict level c.assertion c.semantic ∷ task.then_next (task.evaluations level party n more) ∷ [])))) k
+      doing (task.evaluated_truth level c.predicate) (task.verdict level c.of.assertion c.of.semantic ∷ task.then_next (task.evaluations level party n more) ∷ [])))) k
   unfolding either gives throws ends
   permitted_steps level party n None k = refl
   permitted_steps level party n (Some c) k =
@@ -69,13 +69,13 @@ module _ (program : Program) where
       ∙ flow (spend >> begin_told) _ _ _
       ∙ flow spend _ _ _
       ∙ (λ i. either spend (λ _. either begin_told (λ _.
-      flow_either (evaluated program (at program level) c.0.predicate >>= truth) (verdict_on program (at program level) c.0.assertion c.0.semantic)
-      (verdict_threw program (at program level) c.0.assertion c.0.semantic)
+      flow_either (evaluated program (at program level) c.0.predicate >>= truth) (verdict_on program (at program level) c.0.of.assertion c.0.of.semantic)
+      (verdict_threw program (at program level) c.0.of.assertion c.0.of.semantic)
       (λ _. silent_rest (evaluations n (map (owed_of program level party) c.1)) k) k.on_thrown i) k.on_thrown) k.on_thrown)
       ∙ sym (flow spend (λ _. begin_told >> doing (task.evaluated_truth level c.0.predicate)
-      (task.verdict level c.0.assertion c.0.semantic ∷ task.then_next (task.evaluations level party n c.1) ∷ [])) (λ n. next_means program n k) k.on_thrown
+      (task.verdict level c.0.of.assertion c.0.of.semantic ∷ task.then_next (task.evaluations level party n c.1) ∷ [])) (λ n. next_means program n k) k.on_thrown
       ∙ (λ i. either spend (λ _. flow begin_told (λ _. doing (task.evaluated_truth level c.0.predicate)
-      (task.verdict level c.0.assertion c.0.semantic ∷ task.then_next (task.evaluations level party n c.1) ∷ [])) (λ n. next_means program n k) k.on_thrown i) k.on_thrown))
+      (task.verdict level c.0.of.assertion c.0.of.semantic ∷ task.then_next (task.evaluations level party n c.1) ∷ [])) (λ n. next_means program n k) k.on_thrown i) k.on_thrown))
 
   pub evaluations_steps : (level : Level) (party : Party) (n : ℕ) (due : List Due) (k : Rest)
       → Steps program (task_means program (task.evaluations level party n due) k) (step_evaluations program level party n due) k
@@ -85,22 +85,22 @@ module _ (program : Program) where
       ap (λ o. silent_rest (block.if_permitted o (λ check more. spend >> begin_told >> check >> evaluations n more)) k) (continued_same level party e due)
       ∙ permitted_steps level party n (continued party e due) k)
 
-  total_same : (level : Level) (party : Party) (checks : List Check) → total (map (owed program (at program level) party) checks) ≡ due_in_all checks
+  total_same : (level : Level) (party : Party) (checks : List (Specifier Check)) → total (map (owed program (at program level) party) checks) ≡ due_in_all checks
   total_same level party [] = refl
-  total_same level party (c ∷ checks) = ap (λ n. c.times + n) (total_same level party checks)
+  total_same level party (c ∷ checks) = ap (λ n. c.of.times + n) (total_same level party checks)
 
-  owed_same : (level : Level) (party : Party) (checks : List Check)
+  owed_same : (level : Level) (party : Party) (checks : List (Specifier Check))
       → map (owed program (at program level) party) checks ≡ map (owed_of program level party) (map first_due checks)
   owed_same level party [] = refl
   owed_same level party (c ∷ checks) = ap (λ more. owed program (at program level) party c ∷ more) (owed_same level party checks)
 
-  pub checks_steps : (level : Level) (party : Party) (checks : List Check) (k : Rest)
+  pub checks_steps : (level : Level) (party : Party) (checks : List (Specifier Check)) (k : Rest)
       → Steps program (task_means program (task.checks level party checks) k) (step_task program (task.checks level party checks)) k
   unfolding either gives
   checks_steps level party checks k =
       λ i. silent_rest (evaluations (total_same level party checks i) (owed_same level party checks i)) k
 
-  pub edged_checks_steps : (level : Level) (checks : List Check) (k : Rest)
+  pub edged_checks_steps : (level : Level) (checks : List (Specifier Check)) (k : Rest)
       → Steps program (task_means program (task.edged_checks level checks) k) (step_task program (task.edged_checks level checks)) k
   unfolding either gives throws ends
   edged_checks_steps level checks k = edge_flow (checked program (at program level) Definer checks) _ _
@@ -108,8 +108,8 @@ module _ (program : Program) where
   handler_steps : (level : Level) (o : Option ℕ) (v : Violation) (k : Rest)
       → Steps program (silent_rest (handle_by program (at program level) o v) k) (step_handling_violation program level o v) k
   unfolding either gives throws ends
-  handler_steps level None v k = answered_steps program (λ _. nothing) (append (event.handler v)) k
-  handler_steps level (Some f) v k = both current_frame _ _ _ _ _ (λ frame. flow (at program level (record { function = f; unit = frame.unit; arguments = store.violation v ∷ []; result = None })) _ _ _)
+  handler_steps level None v k = answered_steps program (λ _. nothing) (spend >> append (event.handler v)) k
+  handler_steps level (Some f) v k = both current_frame _ _ _ _ _ (λ frame. flow (at program level (record { function = f; caller = None; unit = frame.unit; reports = Some v; arguments = store.violation v ∷ []; result = None })) _ _ _)
 
   pub handling_violation_steps : (level : Level) (v : Violation) (k : Rest)
       → Steps program (task_means program (task.handling_violation level v) k) (step_task program (task.handling_violation level v)) k
@@ -118,33 +118,33 @@ module _ (program : Program) where
   pub before_steps : (level : Level) (f : Function) (c : Call) (k : Rest)
       → Steps program (task_means program (task.before level f c) k) (step_task program (task.before level f c)) k
   unfolding either gives throws ends
-  before_steps level f c k = flow (in_unit c.unit (checked program (at program level) Caller (caller_checks program (at program level) c).preconditions)) _ _ _
-      ∙ open_unit program level _ _ _ (λ within. doing (task.checks level Caller (caller_checks program no_calls c).preconditions)
-      (within ∷ task.then_next (task.checks level Definer f.checks.preconditions) ∷ [])) k c.unit (λ frame. refl)
+  before_steps level f c k = flow (caller_row program (at program level) (λ checks. checks.preconditions) c.caller c.function) _ _ _
 
   pub after_steps : (level : Level) (f : Function) (c : Call) (k : Rest)
       → Steps program (task_means program (task.after level f c) k) (step_task program (task.after level f c)) k
   unfolding either gives throws ends
   after_steps level f c k = flow (checked program (at program level) Definer f.checks.postconditions) _ _ _
 
-  pub caller_after_steps : (level : Level) (c : Call) (k : Rest)
-      → Steps program (task_means program (task.caller_after level c) k) (step_task program (task.caller_after level c)) k
+  pub caller_steps : (level : Level) (of : Checks → List (Specifier Check)) (caller : Option ℕ) (f : ℕ) (k : Rest)
+      → Steps program (silent_rest (caller_row program (at program level) of caller f) k) (step_caller program level of caller f) k
   unfolding either gives throws ends
-  caller_after_steps level c k =
-      open_unit program level _ _ _ (λ within. doing (task.checks level Caller (caller_checks program no_calls c).postconditions) (within ∷ [])) k c.unit (λ frame. refl)
+  caller_steps level of None f k = refl
+  caller_steps level of (Some unit) f k =
+      open_unit program level _ _ _ (λ within. doing (task.checks level Caller (of (caller_checks program no_calls unit f))) (within ∷ [])) k unit (λ frame. refl)
 
   -- ---- the ends of objects
 
-  pub call_on_steps : (level : Level) (f : ℕ) (a : Address) (arguments : List Value) (k : Rest)
-      → Steps program (task_means program (task.call_on level f a arguments) k) (step_task program (task.call_on level f a arguments)) k
+  pub construct_at_steps : (level : Level) (f : ℕ) (a : Address) (arguments : List Value) (k : Rest)
+      → Steps program (task_means program (task.construct_at level f a arguments) k) (step_task program (task.construct_at level f a arguments)) k
   unfolding either gives throws ends
-  call_on_steps level f a arguments k = both current_frame _ _ _ _ _ (λ frame.
-      flow (at program level (record { function = f; unit = frame.unit; arguments = address a ∷ arguments; result = None })) _ _ _)
+  construct_at_steps level f a arguments k = both current_frame _ _ _ _ _ (λ frame.
+      flow (at program level (record { function = f; caller = Some frame.unit; unit = frame.unit; reports = None; arguments = address a ∷ arguments; result = None })) _ _ _)
 
   pub destroying_steps : (level : Level) (c : ℕ) (a : Address) (k : Rest)
       → Steps program (task_means program (task.destroying level c a) k) (step_task program (task.destroying level c a)) k
   unfolding either gives throws ends
-  destroying_steps level c a k = both (class_at program (at program level) c) _ _ _ _ _ (λ definition. refl)
+  destroying_steps level c a k = both (class_at program (at program level) c) _ _ _ _ _ (λ definition. both current_frame _ _ _ _ _ (λ frame.
+      flow (at program level (record { function = definition.destructor; caller = None; unit = frame.unit; reports = None; arguments = address a ∷ []; result = None })) _ _ _))
 
   pub destroying_fields_steps : (level : Level) (c : ℕ) (a : Address) (k : Rest)
       → Steps program (task_means program (task.destroying_fields level c a) k) (step_task program (task.destroying_fields level c a)) k
@@ -161,7 +161,8 @@ module _ (program : Program) where
   unfolding either gives throws ends
   ending_steps level (whole n (class c)) k = flow (destroy program (at program level) c (record { object = n; leaf = 0 })) _ _ _
   ending_steps level (whole n (scalar s)) k = answered_steps program (λ _. nothing) (end_lifetime n) k
-  ending_steps level (whole n pointer) k = answered_steps program (λ _. nothing) (end_lifetime n) k
+  ending_steps level (whole n (pointer t)) k = answered_steps program (λ _. nothing) (end_lifetime n) k
+  ending_steps level (whole n (function_pointer t)) k = answered_steps program (λ _. nothing) (end_lifetime n) k
   ending_steps level (field a c) k = refl
 
   pub ending_each_steps : (level : Level) (living : List Living) (k : Rest)
@@ -214,10 +215,11 @@ module _ (program : Program) where
       ≡ either (step_default_field program level leaf type fields) (λ n. next_means program n k) k.on_thrown
   unfolding either gives throws ends
   default_field_steps level leaf (scalar s) fields k = refl
-  default_field_steps level leaf pointer fields k = refl
+  default_field_steps level leaf (pointer t) fields k = refl
+  default_field_steps level leaf (function_pointer t) fields k = refl
   default_field_steps level leaf (class t) fields k = both (class_at program (at program level) t) _ _ _ _ _ (λ definition.
       both (some definition.default_constructor) _ _ _ _ _ (λ default.
-      field_steps level leaf (class t) (λ a. call_on program (at program level) default a []) (λ a. task.call_on level default a []) (task.default_fields level fields) k (λ a k. refl)))
+      field_steps level leaf (class t) (λ a. construct_at program (at program level) default a []) (λ a. task.construct_at level default a []) (task.default_fields level fields) k (λ a k. refl)))
 
   pub default_fields_steps : (level : Level) (fields : List Field) (k : Rest)
       → Steps program (task_means program (task.default_fields level fields) k) (step_default_fields program level fields) k
@@ -245,5 +247,6 @@ module _ (program : Program) where
       → Steps program (task_means program (task.copying_object level type source to) k) (step_copying_object program level type source to) k
   unfolding either gives throws ends
   copying_object_steps level (scalar s) source to k = answered_steps program (λ _. nothing) (copy_leaf program (at program level) source to) k
-  copying_object_steps level pointer source to k = answered_steps program (λ _. nothing) (copy_leaf program (at program level) source to) k
+  copying_object_steps level (pointer t) source to k = answered_steps program (λ _. nothing) (copy_leaf program (at program level) source to) k
+  copying_object_steps level (function_pointer t) source to k = answered_steps program (λ _. nothing) (copy_leaf program (at program level) source to) k
   copying_object_steps level (class t) source to k = both (class_at program (at program level) t) _ _ _ _ _ (λ definition. refl)

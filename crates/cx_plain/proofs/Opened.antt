@@ -1,10 +1,11 @@
 -- What is opened and left again: scopes, full-expressions, constructions, units, handlers; each with the frame that leaves it.
 use Rattle.std.proofs.Common.{◌≡◌, refl, sym, ◌∙◌, ℕ, List, [], ◌∷◌, Option, Some, None}
 use Rattle.cx_core.specs.Program.{Program}
-use Rattle.cx_core.specs.Store.{Value, number, address, null, violation}
+use Rattle.cx_core.specs.Store.{Value, number, address, null, function, violation}
 use Rattle.cx_core.specs.Outcome.{Exception, Living, Frame as ActiveFrame, Does, Nothing, Outcome, on, thrown, over, after, either, ◌>>=◌, ◌>>◌, gives, throws, ends, some, undone_by, current_frame, set_frame, current_living, set_living, current_temporaries, set_temporaries, current_held, set_held, place_of}
 use Rattle.cx_core.specs.Leaving.{end_each, scope, full_expression, constructing, within, holding, end_unless_among}
 use Rattle.cx_core.specs.Operators.{named}
+use Rattle.cx_core.specs.Calls.{function_held}
 use Rattle.cx_plain.specs.Task as task
 use Rattle.cx_plain.specs.Task.{Level, Frame, Next}
 use Rattle.cx_plain.specs.Step as step
@@ -25,7 +26,16 @@ unfolding either gives ends
 steady_place_of (number n) F H J = refl
 steady_place_of (address a) F H J = refl
 steady_place_of null F H J = refl
+steady_place_of (function f) F H J = refl
 steady_place_of (violation v) F H J = refl
+
+pub steady_function_held : (v : Value) → IsSteady (function_held v)
+unfolding either gives ends
+steady_function_held (number n) F H J = refl
+steady_function_held (address a) F H J = refl
+steady_function_held null F H J = refl
+steady_function_held (function f) F H J = refl
+steady_function_held (violation v) F H J = refl
 
 pub steady_then : {A B : Type 0} (m : Does A) (f : A → Does B) → IsSteady m → ((a : A) → IsSteady (f a)) → IsSteady (m >>= f)
 steady_then m f h g F H J =

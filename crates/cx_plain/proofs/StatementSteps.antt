@@ -2,7 +2,7 @@
 use Rattle.std.proofs.Common.{◌≡◌, refl, ◌∙◌, ℕ, zero, suc, Bool, true, false, if◌then◌else◌, List, [], ◌∷◌, Option, Some, None}
 use Rattle.cx_core.specs.Words.{Definer}
 use Rattle.cx_core.specs.Tree as tree
-use Rattle.cx_core.specs.Tree.{ObjectType, scalar, pointer, class, Expr, Operand, operand, Init, Args, no_more, by_reference, by_value, Check, Condition, always, CatchParameter, unnamed, reference, object, Stmt, Stmts, done, Handlers, none, catch_all, catch}
+use Rattle.cx_core.specs.Tree.{ObjectType, scalar, pointer, class, Expr, Operand, operand, Init, Args, no_more, by_reference, by_value, Check, Specifier, Condition, always, CatchParameter, unnamed, reference, object, Stmt, Stmts, done, Handlers, none, catch_all, catch}
 use Rattle.cx_core.specs.Program.{Program}
 use Rattle.cx_core.specs.Store.{Address, Value, address, null}
 use Rattle.cx_core.specs.Event as event
@@ -12,8 +12,9 @@ use Rattle.cx_core.specs.Leaving.{Call, scope, full_expression, in_unit, end_unl
 use Rattle.cx_core.specs.Leaving as leaving
 use Rattle.cx_core.specs.Check.{truth}
 use Rattle.cx_core.specs.Operators.{bind}
-use Rattle.cx_core.specs.Statements.{Completion, on_to_next, return, loop, turns, call_of, zero_object, rethrown, variable_of, reference_of, throw_of, handled, same_type}
-use Rattle.cx_core.specs.Meaning.{expr, used, init, args, evaluated, condition, checked, stmt, stmts, handlers, returned, returned_object, catch_parameter}
+use Rattle.cx_core.specs.Calls.{Callee, by_name, call_of, returned, returned_object}
+use Rattle.cx_core.specs.Statements.{Completion, on_to_next, return, loop, turns, zero_object, rethrown, variable_of, reference_of, throw_of, handled, same_type}
+use Rattle.cx_core.specs.Meaning.{expr, used, init, args, evaluated, condition, checked, stmt, stmts, handlers, catch_parameter}
 use Rattle.cx_plain.specs.Task as task
 use Rattle.cx_plain.specs.Task.{Level, Given, value, nothing, values, number, completion, Loop, Due, Task, Frame, Next, go}
 use Rattle.cx_plain.specs.Step.{step_task, step_used, step_initialise, step_arguments, step_statement, step_statements, step_handling, step_handled, step_parameter, step_testing, step_turns, step_evaluations, step_handling_violation, first_due, due_in_all, continued, Continued, behind, once_less, has_stood, if_permitted, evaluation_of, doing, calls}
@@ -33,9 +34,10 @@ module _ (program : Program) where
   unfolding expr either gives throws ends
   initialise_steps level (tree.value a) p k = flow (used program (at program level) a) _ _ _
   initialise_steps level (tree.construct f a) p k =
-      flow (call_of program (at program level) f (args program (at program level) a >>= (λ vs. gives (address p ∷ vs))) None) _ _ _
+      flow (call_of program (at program level) (by_name f) (args program (at program level) a >>= (λ vs. gives (address p ∷ vs))) None) _ _ _
   initialise_steps level (tree.zero_first c i) p k = both (zero_object program (at program level) c p) _ _ _ _ _ (λ _. refl)
-  initialise_steps level (tree.result_of f a) p k = flow (call_of program (at program level) f (args program (at program level) a) (Some (address p))) _ _ _
+  initialise_steps level (tree.result_of f a) p k = flow (call_of program (at program level) (by_name f) (args program (at program level) a) (Some (address p))) _ _ _
+  initialise_steps level (tree.result_through q a) p k = flow (used program (at program level) q) _ _ _
 
   pub arguments_steps : (level : Level) (a : Args) (k : Rest) → Steps program (task_means program (task.arguments level a) k) (step_arguments program level a) k
   unfolding expr either gives throws ends
@@ -46,18 +48,18 @@ module _ (program : Program) where
 
   -- ---- calls with arguments
 
-  pub call_of_steps : (level : Level) (f : ℕ) (this : Option Address) (a : Args) (result : Option Value) (k : Rest)
-      → Steps program (task_means program (task.call_of level f this a result) k) (step_task program (task.call_of level f this a result)) k
+  pub call_of_steps : (level : Level) (callee : Callee) (this : Option Address) (a : Args) (result : Option Value) (k : Rest)
+      → Steps program (task_means program (task.call_of level callee this a result) k) (step_task program (task.call_of level callee this a result)) k
   unfolding either gives throws ends
-  call_of_steps level f None a result k = open_scope program level _ _ _ (λ scope. doing (task.arguments level a) (task.call_with level f result ∷ scope ∷ [])) k (λ outer. flow (args program (at program level) a) _ _ _)
-  call_of_steps level f (Some p) a result k = open_scope program level _ _ _
-      (λ scope. doing (task.arguments level a) (task.first_argument (address p) ∷ task.call_with level f result ∷ scope ∷ [])) k (λ outer.
+  call_of_steps level callee None a result k = open_scope program level _ _ _ (λ scope. doing (task.arguments level a) (task.call_with level callee result ∷ scope ∷ [])) k (λ outer. flow (args program (at program level) a) _ _ _)
+  call_of_steps level callee (Some p) a result k = open_scope program level _ _ _
+      (λ scope. doing (task.arguments level a) (task.first_argument (address p) ∷ task.call_with level callee result ∷ scope ∷ [])) k (λ outer.
       flow (args program (at program level) a >>= (λ vs. gives (address p ∷ vs))) _ _ _ ∙ flow (args program (at program level) a) _ _ _)
 
-  pub call_into_steps : (level : Level) (f : ℕ) (a : Args) (n : ℕ) (k : Rest)
-      → Steps program (task_means program (task.call_into level f a n) k) (step_task program (task.call_into level f a n)) k
+  pub call_into_steps : (level : Level) (callee : Callee) (a : Args) (n : ℕ) (k : Rest)
+      → Steps program (task_means program (task.call_into level callee a n) k) (step_task program (task.call_into level callee a n)) k
   unfolding either gives throws ends
-  call_into_steps level f a n k = open_scope program level _ _ _ (λ scope. doing (task.arguments level a) (task.call_into_object level f n ∷ scope ∷ [])) k (λ outer. flow (args program (at program level) a) _ _ _)
+  call_into_steps level callee a n k = open_scope program level _ _ _ (λ scope. doing (task.arguments level a) (task.call_into_object level callee n ∷ scope ∷ [])) k (λ outer. flow (args program (at program level) a) _ _ _)
 
   pub evaluated_steps : (level : Level) (a : Operand) (k : Rest)
       → Steps program (task_means program (task.evaluated level a) k) (step_task program (task.evaluated level a)) k
@@ -81,14 +83,12 @@ module _ (program : Program) where
   result_place_steps level i result N H frames k h = both_steady (some result) (steady_some result) _ _ _ _ _ _ (λ place.
       both_steady (place_of place) (steady_place_of place) _ _ _ _ _ _ h)
 
-  pub statement_steps : (level : Level) (s : Stmt) (k : Rest)
+  pub statement_steps : (level : Level) (s : Stmt Check) (k : Rest)
       → Steps program (task_means program (task.statement level s) k) (step_statement program level s) k
   unfolding stmt either gives throws ends
   statement_steps level tree.empty k = refl
-  statement_steps level (tree.expression e) k =
-      flow (full_expression program (at program level) (expr program (at program level) e) >> skip) _ _ _
-      ∙ flow (full_expression program (at program level) (expr program (at program level) e)) _ _ _
-      ∙ open_full program level (expr program (at program level) e) _ _ (λ full. doing (task.expression level e) (full ∷ task.completed ∷ [])) k (λ outer. refl)
+  statement_steps level (tree.expression a) k =
+      flow (evaluated program (at program level) a >> skip) _ _ _ ∙ flow (evaluated program (at program level) a) _ _ _
   statement_steps level (tree.variable_declaration slot type i) k =
       flow (variable_of program (at program level) slot type (init program (at program level) i)) _ _ _
   statement_steps level (tree.reference_declaration slot e) k =
@@ -106,17 +106,17 @@ module _ (program : Program) where
   statement_steps level tree.break k = refl
   statement_steps level tree.continue k = refl
   statement_steps level tree.return k = refl
-  statement_steps level (tree.return_value a) k = flow (returned program (at program level) a) _ _ _
+  statement_steps level (tree.return_value a) k = flow (returned program (at program level) (used program (at program level) a)) _ _ _
       ∙ open_full program level _ _ _ (λ full. doing (task.used level a) (task.operate task.store_result ∷ full ∷ task.returning ∷ [])) k
       (λ outer. flow (used program (at program level) a) _ _ _)
   statement_steps level (tree.return_reference e) k = flow (full_expression program (at program level) (expr program (at program level) e)) _ _ _
       ∙ open_full program level (expr program (at program level) e) _ _ (λ full. doing (task.expression level e) (full ∷ task.returning ∷ [])) k (λ outer. refl)
-  statement_steps level (tree.return_object i) k = flow (returned_object program (at program level) i) _ _ _
+  statement_steps level (tree.return_object i) k = flow (returned_object program (at program level) (init program (at program level) i)) _ _ _
       ∙ open_full program level _ _ _ (λ full. current_frame >>= (λ frame. some frame.result >>= (λ place. place_of place >>= (λ a.
       doing (task.initialise level i a) (full ∷ task.replace (completion (return null)) ∷ []))))) k (λ outer.
       both_steady current_frame steady_frame _ _ _ _ _ _ (λ frame.
       result_place_steps level i frame.result _ _ (task.leaving_full level outer ∷ task.replace (completion (return null)) ∷ []) k (λ a. refl)))
-  statement_steps level (tree.contract_assert c) k = flow (checked program (at program level) Definer (c ∷ [])) _ _ _
+  statement_steps level (tree.contract_assert c predicate) k = flow (checked program (at program level) Definer (record { of = c; predicate = predicate } ∷ [])) _ _ _
   statement_steps level (tree.throw type i) k = open_full program level _ _ _
       (λ full. doing (task.making level task.nobody type None i) (task.throwing type ∷ full ∷ [])) k (λ outer.
       flow (leaving.object program (at program level) (λ _. skip) type (init program (at program level) i)) _ _ _)
@@ -124,30 +124,30 @@ module _ (program : Program) where
   statement_steps level (tree.try b h) k =
       flow_either (scope program (at program level) (stmts program (at program level) b)) gives (handlers program (at program level) h) _ _
 
-  pub statements_steps : (level : Level) (b : Stmts) (k : Rest)
+  pub statements_steps : (level : Level) (b : Stmts Check) (k : Rest)
       → Steps program (task_means program (task.statements level b) k) (step_statements program level b) k
   unfolding stmt either gives throws ends
   statements_steps level done k = refl
   statements_steps level (tree.next a rest) k = flow (stmt program (at program level) a) _ _ _
 
-  pub block_steps : (level : Level) (b : Stmts) (k : Rest)
+  pub block_steps : (level : Level) (b : Stmts Check) (k : Rest)
       → Steps program (task_means program (task.block level b) k) (step_task program (task.block level b)) k
   unfolding either gives throws ends
   block_steps level b k = open_scope program level _ _ _ (λ scope. doing (task.statements level b) (scope ∷ [])) k (λ outer. refl)
 
   -- ---- handlers
 
-  parameter_steps : (level : Level) (parameter : CatchParameter) (e : Exception) (b : Stmts) (frames : List Frame) (k : Rest)
+  parameter_steps : (level : Level) (parameter : CatchParameter) (e : Exception) (b : Stmts Check) (frames : List Frame) (k : Rest)
       → either (edge (catch_parameter program (at program level) parameter e) >> stmts program (at program level) b) (λ c. (under program frames k).on_given (completion c)) (under program frames k).on_thrown
       ≡ either (step_parameter program level parameter e b frames) (λ n. next_means program n k) k.on_thrown
   unfolding either gives throws ends current_frame set_frame
   parameter_steps level unnamed e b frames k = refl
   parameter_steps level (reference slot) e b frames k = refl
-  parameter_steps level (object slot i) e b frames k =
+  parameter_steps level (object slot is_named i) e b frames k =
       flow (edge (variable_of program (at program level) slot e.type (init program (at program level) i))) (λ _. stmts program (at program level) b) _ _
       ∙ edge_flow (variable_of program (at program level) slot e.type (init program (at program level) i)) _ _
 
-  handled_steps : (level : Level) (e : Exception) (parameter : CatchParameter) (b : Stmts) (k : Rest)
+  handled_steps : (level : Level) (e : Exception) (parameter : CatchParameter) (b : Stmts Check) (k : Rest)
       → Steps program (completed_rest (handled program (at program level) e (catch_parameter program (at program level) parameter e) (stmts program (at program level) b)) k) (step_handled program level e parameter b) k
   unfolding either gives throws ends
   handled_steps level e parameter b k = both (append (event.catch (Rattle.cx_core.specs.Statements.type_name program e.type))) _ _ _ _ _ (λ _.
@@ -156,7 +156,7 @@ module _ (program : Program) where
       open_scope program level _ _ _ (λ scope. step_parameter program level parameter e b (scope ∷ task.holding level e held ∷ [])) k (λ outer.
       parameter_steps level parameter e b (task.leaving_scope level outer ∷ task.holding level e held ∷ []) k)))
 
-  catch_steps : (level : Level) (same : Bool) (e : Exception) (parameter : CatchParameter) (b : Stmts) (rest : Handlers) (k : Rest)
+  catch_steps : (level : Level) (same : Bool) (e : Exception) (parameter : CatchParameter) (b : Stmts Check) (rest : Handlers Check) (k : Rest)
       → Steps program
       (completed_rest (if same then handled program (at program level) e (catch_parameter program (at program level) parameter e) (stmts program (at program level) b) else handlers program (at program level) rest e) k)
       (if same then step_handled program level e parameter b else doing (task.handling level rest e) []) k
@@ -164,7 +164,7 @@ module _ (program : Program) where
   catch_steps level true e parameter b rest k = handled_steps level e parameter b k
   catch_steps level false e parameter b rest k = refl
 
-  pub handling_steps : (level : Level) (h : Handlers) (e : Exception) (k : Rest)
+  pub handling_steps : (level : Level) (h : Handlers Check) (e : Exception) (k : Rest)
       → Steps program (task_means program (task.handling level h e) k) (step_handling program level h e) k
   unfolding stmt either gives throws ends
   handling_steps level none e k = refl

@@ -1,22 +1,17 @@
 -- What the steps of the machine for the meaning are made of: parts without parts of their own, what is done with the values of operands, and rows of checks.
-use Rattle.std.specs.Prelude.{ℕ, zero, suc, ◌+◌, Bool, true, false, not, ◌||◌, if◌then◌else◌, List, [], ◌∷◌, length, map, reverse, nat_eq, nat_lt, Option, Some, None, pos, slice_get}
-use Rattle.cx_core.specs.Words.{Party, Definer, Caller, Semantic, Ignore, Observe, Enforce, QuickEnforce, Holds, False, Threw, PredicateFalse, EvaluationException, Mixed, Terminated, TooDeep, ContractTerminated, Violation}
-use Rattle.cx_core.specs.Tree as tree
-use Rattle.cx_core.specs.Tree.{ObjectType, scalar, pointer, class, Expr, Operand, operand, Init, Args, no_more, by_reference, by_value, Assertion, Check, Condition, always, CatchParameter, unnamed, reference, object, Stmt, Stmts, done, Handlers, none, catch_all, catch}
-use Rattle.cx_core.specs.Program as parts
-use Rattle.cx_core.specs.Program.{Program, Checks, FieldInit, Field, Body, ResultKind, scalar_object, class_object, void, scalar_value, exit_status, Function}
+use Rattle.std.specs.Prelude.{ℕ, zero, suc, ◌+◌, Bool, ◌||◌, if◌then◌else◌, List, [], ◌∷◌, nat_eq, nat_lt, Option, Some, None, pos}
+use Rattle.cx_core.specs.Words.{Party, Mixed}
+use Rattle.cx_core.specs.Tree.{Check, Specifier, Stmt}
+use Rattle.cx_core.specs.Program.{Program}
 use Rattle.cx_core.specs.Store.{Address, Value, address, null, place_in}
 use Rattle.cx_core.specs.Store as store
-use Rattle.cx_core.specs.Event.{Evaluation, same_evaluation, Answer, ended, going, not_a_run}
-use Rattle.cx_core.specs.Event as event
-use Rattle.cx_core.specs.Outcome.{on, Living, whole, field, Exception, Does, Nothing, ◌>>=◌, ◌>>◌, gives, throws, skip, ends, undefined, some, current_frame, set_frame, current_living, set_living, current_temporaries, set_temporaries, current_held, set_held, append, spend, spend_all, make, end_lifetime, keep, keep_temporary, place_of, read, read_leaf, write}
-use Rattle.cx_core.specs.Leaving.{Call, Calls, class_at, leaves_of_type, class_fields, is_among}
-use Rattle.cx_core.specs.Block.{next_told, begin_told}
-use Rattle.cx_core.specs.Check.{truth, violation_of}
-use Rattle.cx_core.specs.Operators.{constant, named, bind, read_as, converted_to, number_of, operated, unary_operated, truth_value, stored, updated, step}
-use Rattle.cx_core.specs.Library.{write_bytes, byte_of, getchar_call, puts_call, violation_in, query_units, told_number}
-use Rattle.cx_core.specs.Statements.{Completion, on_to_next, break, continue, return, same_type, type_name, zero_object, rethrown, this_place, keep_field}
-use Rattle.cx_core.specs.Meaning.{held_object, object_place, caller_checks, value_given, report, copy_leaf, numbered, unit_of, is_implicit_at, result_stored}
+use Rattle.cx_core.specs.Event.{Evaluation, same_evaluation, not_a_run}
+use Rattle.cx_core.specs.Outcome.{Living, Does, Nothing, ◌>>=◌, ◌>>◌, gives, throws, skip, ends, undefined, some, current_frame, spend, spend_all, keep, keep_temporary, place_of, read_leaf}
+use Rattle.cx_core.specs.Leaving.{Call, Calls}
+use Rattle.cx_core.specs.Operators.{bind, read_as, converted_to, number_of, operated, unary_operated, stored, updated, step}
+use Rattle.cx_core.specs.Library.{write_bytes, byte_of, puts_bytes, violation_in, query_units, told_number}
+use Rattle.cx_core.specs.Statements.{Completion}
+use Rattle.cx_core.specs.Calls.{result_stored}
 use Rattle.cx_plain.specs.Task as task
 use Rattle.cx_plain.specs.Task.{Level, Given, value, nothing, values, number, completion, Left, given, thrown, Operation, Keeper, innermost_scope, full_expression, nobody, Loop, Due, Task, Frame, Next, go}
 
@@ -104,7 +99,7 @@ applied program task.putchar v = do
 applied program task.puts_comment place = do
   v ← some (violation_in place)
   spend_all 2
-  puts_call v.comment
+  puts_bytes v.comment
 applied program (task.query query) place = do
   v ← some (violation_in place)
   spend_all (query_units query)
@@ -115,21 +110,21 @@ applied program task.store_result v = do
 
 -- ---- rows
 
-abbrev pub first_due : Check → Due
-first_due c = record { check = c; left = c.times }
+abbrev pub first_due : Specifier Check → Due
+first_due s = record { check = s; left = s.of.times }
 
-abbrev pub due_in_all : List Check → ℕ
+abbrev pub due_in_all : List (Specifier Check) → ℕ
 due_in_all [] = 0
-due_in_all (c ∷ checks) = c.times + due_in_all checks
+due_in_all (s ∷ checks) = s.of.times + due_in_all checks
 
 abbrev pub evaluation_of : Party → Check → Evaluation
 evaluation_of party c = record { assertion = c.assertion.name; party = party; semantic = c.semantic }
 
 abbrev pub has_stood : Due → Bool
-has_stood d = nat_lt d.left d.check.times || nat_eq d.check.times 0
+has_stood d = nat_lt d.left d.check.of.times || nat_eq d.check.of.times 0
 
 abbrev pub Continued : Type 0
-Continued = Check × List Due
+Continued = Specifier Check × List Due
 
 abbrev pub once_less : ℕ → Due → List Due → Option Continued
 once_less zero d due = None
@@ -142,11 +137,11 @@ behind d (Some c) = Some (c.0, d ∷ c.1)
 abbrev pub continued : Party → Evaluation → List Due → Option Continued
 continued party e [] = None
 continued party e (d ∷ due) =
-    if same_evaluation e (evaluation_of party d.check)
+    if same_evaluation e (evaluation_of party d.check.of)
     then once_less d.left d due
     else (if has_stood d then behind d (continued party e due) else None)
 
-abbrev pub if_permitted : Option Continued → (Check → List Due → Does Next) → Does Next
+abbrev pub if_permitted : Option Continued → (Specifier Check → List Due → Does Next) → Does Next
 if_permitted None next = ends not_a_run
 if_permitted (Some c) next = next c.0 c.1
 
@@ -169,6 +164,6 @@ this_first (Some a) frames = task.first_argument (address a) ∷ frames
 abbrev pub site_of : Call → Call
 site_of c = record c { arguments = []; result = None }
 
-abbrev pub after_turn_task : Level → Loop → ℕ → Option Stmt → Next
+abbrev pub after_turn_task : Level → Loop → ℕ → Option (Stmt Check) → Next
 after_turn_task level loop n None = go (task.turns level loop n) []
 after_turn_task level loop n (Some s) = go (task.statement level s) (task.then_next (task.turns level loop n) ∷ [])

@@ -1,22 +1,23 @@
 -- One step of a machine for the meaning: what a task comes to, and what a frame makes of what is given to it or thrown through it.
-use Rattle.std.specs.Prelude.{ℕ, zero, suc, ◌+◌, Bool, true, false, not, ◌||◌, if◌then◌else◌, List, [], ◌∷◌, length, map, reverse, nat_eq, nat_lt, Option, Some, None, pos, slice_get}
+use Rattle.std.specs.Prelude.{ℕ, zero, suc, ◌+◌, Bool, true, false, not, if◌then◌else◌, List, [], ◌∷◌, length, map, reverse, Option, Some, None, slice_get}
 use Rattle.cx_core.specs.Words.{Party, Definer, Caller, Semantic, Ignore, Observe, Enforce, QuickEnforce, Holds, False, Threw, PredicateFalse, EvaluationException, Mixed, Terminated, TooDeep, ContractTerminated, Violation}
 use Rattle.cx_core.specs.Tree as tree
-use Rattle.cx_core.specs.Tree.{ObjectType, scalar, pointer, class, Expr, Operand, operand, Init, Args, no_more, by_reference, by_value, Assertion, Check, Condition, always, CatchParameter, unnamed, reference, object, Stmt, Stmts, done, Handlers, none, catch_all, catch}
+use Rattle.cx_core.specs.Tree.{ObjectType, scalar, pointer, function_pointer, class, PointedResult, void_result, scalar_result, reference_result, Expr, Operand, operand, Init, Args, no_more, by_reference, by_value, Assertion, Check, Specifier, Condition, always, CatchParameter, unnamed, reference, object, Stmt, Stmts, done, Handlers, none, catch_all, catch}
 use Rattle.cx_core.specs.Program as parts
 use Rattle.cx_core.specs.Program.{Program, Checks, FieldInit, Field, Body, ResultKind, scalar_object, class_object, void, scalar_value, exit_status, Function}
 use Rattle.cx_core.specs.Store.{Address, Value, address, null, place_in}
 use Rattle.cx_core.specs.Store as store
 use Rattle.cx_core.specs.Event.{Evaluation, same_evaluation, Answer, ended, going, not_a_run}
 use Rattle.cx_core.specs.Event as event
-use Rattle.cx_core.specs.Outcome.{on, Living, whole, field, Exception, Does, Nothing, ◌>>=◌, ◌>>◌, gives, throws, skip, ends, undefined, some, current_frame, set_frame, current_living, set_living, current_temporaries, set_temporaries, current_held, set_held, append, spend, spend_all, make, end_lifetime, keep, keep_temporary, place_of, read, read_leaf, write}
-use Rattle.cx_core.specs.Leaving.{Call, Calls, class_at, leaves_of_type, class_fields, is_among}
+use Rattle.cx_core.specs.Outcome.{on, Living, whole, field, Exception, Does, ◌>>=◌, ◌>>◌, gives, throws, ends, undefined, some, current_frame, set_frame, current_living, set_living, current_temporaries, set_temporaries, current_held, set_held, append, spend, make, end_lifetime, place_of, read, write}
+use Rattle.cx_core.specs.Leaving.{Call, class_at, leaves_of_type, class_fields, is_among}
 use Rattle.cx_core.specs.Block.{next_told, begin_told}
 use Rattle.cx_core.specs.Check.{truth, violation_of}
-use Rattle.cx_core.specs.Operators.{constant, named, bind, read_as, converted_to, number_of, operated, unary_operated, truth_value, stored, updated, step}
-use Rattle.cx_core.specs.Library.{write_bytes, byte_of, getchar_call, puts_call, violation_in, query_units, told_number}
+use Rattle.cx_core.specs.Operators.{constant, named, bind, truth_value}
+use Rattle.cx_core.specs.Library.{getchar_call, puts_call}
 use Rattle.cx_core.specs.Statements.{Completion, on_to_next, break, continue, return, same_type, type_name, zero_object, rethrown, this_place, keep_field}
-use Rattle.cx_core.specs.Meaning.{held_object, object_place, caller_checks, value_given, report, copy_leaf, numbered, unit_of, is_implicit_at, result_stored}
+use Rattle.cx_core.specs.Calls.{Callee, by_name, by_pointer, function_held, value_given}
+use Rattle.cx_core.specs.Meaning.{held_object, object_place, caller_checks, reported, copy_leaf, numbered, unit_of, is_implicit_at}
 use Rattle.cx_plain.specs.Task as task
 use Rattle.cx_plain.specs.Task.{Level, Given, value, nothing, values, number, completion, Left, given, thrown, Operation, Keeper, innermost_scope, full_expression, nobody, Loop, Due, Task, Frame, Next, go}
 pub use Rattle.cx_plain.specs.Applied.{on_value, on_truth, on_values, on_number, on_completion, answered, valued, silent, giving, doing, left_by, no_calls, applied, first_due, due_in_all, evaluation_of, has_stood, Continued, once_less, behind, continued, if_permitted, keeps, bind_object, this_first, site_of, after_turn_task}
@@ -51,17 +52,36 @@ module _ (program : Program) where
     set_frame (record frame { unit = unit })
     next (task.within frame)
 
-  abbrev pub step_call : Level → ResultKind → ℕ → Args → Does Next
-  step_call level scalar_object f a = do
+  abbrev pub step_with_object : Level → Callee → Args → Does Next
+  step_with_object level callee a = do
     n ← make 1
-    doing (task.call_into level f a n) (task.end_result n ∷ [])
-  step_call level other f a = doing (task.call_of level f None a None) []
+    doing (task.call_into level callee a n) (task.end_result n ∷ [])
+
+  abbrev pub step_call : Level → ResultKind → ℕ → Args → Does Next
+  step_call level scalar_object f a = step_with_object level (by_name f) a
+  step_call level other f a = doing (task.call_of level (by_name f) None a None) []
+
+  abbrev pub step_call_through : Level → PointedResult → Value → Args → Does Next
+  step_call_through level scalar_result p a = step_with_object level (by_pointer p) a
+  step_call_through level void_result p a = doing (task.call_of level (by_pointer p) None a None) []
+  step_call_through level reference_result p a = doing (task.call_of level (by_pointer p) None a None) []
+
+  -- the arguments are there
+  abbrev pub step_call_to : Level → Callee → List Value → Option Value → List Frame → Does Next
+  step_call_to level (by_name f) arguments result frames = do
+    frame ← current_frame
+    doing (calls level (record { function = f; caller = Some frame.unit; unit = frame.unit; reports = None; arguments = arguments; result = result })) frames
+  step_call_to level (by_pointer p) arguments result frames = do
+    f ← function_held p
+    frame ← current_frame
+    doing (calls level (record { function = f; caller = None; unit = frame.unit; reports = None; arguments = arguments; result = result })) frames
 
   abbrev pub step_expression : Level → Expr → Does Next
   step_expression level (tree.literal c) = valued (spend >> gives (constant c))
   step_expression level (tree.variable slot) = valued (spend >> named slot)
   step_expression level (tree.global i) = valued (spend >> gives (object_place (i + 1)))
   step_expression level tree.this = valued (spend >> named 0)
+  step_expression level (tree.function_name f) = valued (spend >> gives (store.function f))
   step_expression level tree.result_name = valued (spend >> current_frame >>= (λ frame. some frame.result))
   step_expression level tree.exception_object = valued (current_held >>= held_object)
   step_expression level (tree.unary operator type a) = doing (task.used level a) (task.operate (task.unary operator type) ∷ [])
@@ -78,6 +98,7 @@ module _ (program : Program) where
   step_expression level (tree.indirection a) = doing (task.used level a) (task.operate task.indirection ∷ [])
   step_expression level (tree.member leaf a) = doing (task.expression level a) (task.operate (task.member leaf) ∷ [])
   step_expression level (tree.call f a) = some (slice_get program.functions f) >>= (λ definition. step_call level definition.result f a)
+  step_expression level (tree.call_through kind p a) = doing (task.used level p) (task.call_through level kind a ∷ [])
   step_expression level (tree.temporary type i) = doing (task.making level full_expression type None i) (task.place_of_object ∷ [])
   step_expression level (tree.putchar a) = doing (task.used level a) (task.operate task.putchar ∷ [])
   step_expression level tree.getchar = valued getchar_call
@@ -90,9 +111,10 @@ module _ (program : Program) where
 
   abbrev pub step_initialise : Level → Init → Address → Does Next
   step_initialise level (tree.value a) p = doing (task.used level a) (task.write_value p ∷ [])
-  step_initialise level (tree.construct f a) p = doing (task.call_of level f (Some p) a None) (task.discard ∷ [])
+  step_initialise level (tree.construct f a) p = doing (task.call_of level (by_name f) (Some p) a None) (task.discard ∷ [])
   step_initialise level (tree.zero_first c i) p = zero_object program no_calls c p >> doing (task.initialise level i p) []
-  step_initialise level (tree.result_of f a) p = doing (task.call_of level f None a (Some (address p))) (task.discard ∷ [])
+  step_initialise level (tree.result_of f a) p = doing (task.call_of level (by_name f) None a (Some (address p))) (task.discard ∷ [])
+  step_initialise level (tree.result_through q a) p = doing (task.used level q) (task.result_through level a p ∷ [])
 
   abbrev pub step_arguments : Level → Args → Does Next
   step_arguments level no_more = giving (values [])
@@ -102,28 +124,28 @@ module _ (program : Program) where
   -- ---- statements
 
   -- a handler takes an exception: what its parameter needs is done, then its block
-  abbrev pub step_parameter : Level → CatchParameter → Exception → Stmts → List Frame → Does Next
+  abbrev pub step_parameter : Level → CatchParameter → Exception → Stmts Check → List Frame → Does Next
   step_parameter level unnamed e b frames = doing (task.statements level b) frames
   step_parameter level (reference slot) e b frames = bind slot (object_place e.object) >> doing (task.statements level b) frames
-  step_parameter level (object slot i) e b frames =
+  step_parameter level (object slot is_named i) e b frames =
       doing (task.declaring level slot e.type i) (task.edge_if true ∷ task.then_next (task.statements level b) ∷ frames)
 
-  abbrev pub step_handled : Level → Exception → CatchParameter → Stmts → Does Next
+  abbrev pub step_handled : Level → Exception → CatchParameter → Stmts Check → Does Next
   step_handled level e parameter b = do
     append (event.catch (type_name program e.type))
     held ← current_held
     set_held (e ∷ held)
     in_scope level (λ scope. step_parameter level parameter e b (scope ∷ task.holding level e held ∷ []))
 
-  abbrev pub step_handling : Level → Handlers → Exception → Does Next
+  abbrev pub step_handling : Level → Handlers Check → Exception → Does Next
   step_handling level none e = throws e
   step_handling level (catch_all b rest) e = spend >> step_handled level e unnamed b
   step_handling level (catch type parameter b rest) e =
       spend >> (if same_type e.type type then step_handled level e parameter b else doing (task.handling level rest e) [])
 
-  abbrev pub step_statement : Level → Stmt → Does Next
+  abbrev pub step_statement : Level → Stmt Check → Does Next
   step_statement level tree.empty = giving (completion on_to_next)
-  step_statement level (tree.expression e) = in_full_expression level (λ full. doing (task.expression level e) (full ∷ task.completed ∷ []))
+  step_statement level (tree.expression a) = doing (task.evaluated level a) (task.completed ∷ [])
   step_statement level (tree.variable_declaration slot type i) = doing (task.declaring level slot type i) (task.completed ∷ [])
   step_statement level (tree.reference_declaration slot e) =
       bind slot null >> in_full_expression level (λ full. doing (task.expression level e) (full ∷ task.bound slot ∷ task.completed ∷ []))
@@ -143,12 +165,12 @@ module _ (program : Program) where
     place ← some frame.result
     a ← place_of place
     doing (task.initialise level i a) (full ∷ task.replace (completion (return null)) ∷ []))
-  step_statement level (tree.contract_assert c) = doing (task.checks level Definer (c ∷ [])) (task.completed ∷ [])
+  step_statement level (tree.contract_assert c predicate) = doing (task.checks level Definer (record { of = c; predicate = predicate } ∷ [])) (task.completed ∷ [])
   step_statement level (tree.throw type i) = in_full_expression level (λ full. doing (task.making level nobody type None i) (task.throwing type ∷ full ∷ []))
   step_statement level tree.rethrow = answered completion (rethrown program no_calls)
   step_statement level (tree.try b h) = doing (task.block level b) (task.catching level h ∷ [])
 
-  abbrev pub step_statements : Level → Stmts → Does Next
+  abbrev pub step_statements : Level → Stmts Check → Does Next
   step_statements level done = giving (completion on_to_next)
   step_statements level (tree.next a rest) = doing (task.statement level a) (task.sequence level rest ∷ [])
 
@@ -166,7 +188,7 @@ module _ (program : Program) where
   step_turn_done level loop n break = giving (completion on_to_next)
   step_turn_done level loop n (return v) = giving (completion (return v))
 
-  abbrev pub step_sequence : Level → Stmts → Completion → Does Next
+  abbrev pub step_sequence : Level → Stmts Check → Completion → Does Next
   step_sequence level rest on_to_next = doing (task.statements level rest) []
   step_sequence level rest other = giving (completion other)
 
@@ -179,13 +201,13 @@ module _ (program : Program) where
     if_permitted (continued party e due) (λ c more. do
       spend
       begin_told
-      doing (task.evaluated_truth level c.predicate) (task.verdict level c.assertion c.semantic ∷ task.then_next (task.evaluations level party n more) ∷ []))
+      doing (task.evaluated_truth level c.predicate) (task.verdict level c.of.assertion c.of.semantic ∷ task.then_next (task.evaluations level party n more) ∷ []))
 
   abbrev pub step_handling_violation : Level → Option ℕ → Violation → Does Next
-  step_handling_violation level None v = silent (append (event.handler v))
+  step_handling_violation level None v = silent (spend >> append (event.handler v))
   step_handling_violation level (Some f) v = do
     frame ← current_frame
-    doing (calls level (record { function = f; unit = frame.unit; arguments = store.violation v ∷ []; result = None })) (task.discard ∷ [])
+    doing (calls level (record { function = f; caller = None; unit = frame.unit; reports = Some v; arguments = store.violation v ∷ []; result = None })) (task.discard ∷ [])
 
   abbrev pub step_violated : Level → Semantic → Violation → Does Next
   step_violated level Ignore v = giving nothing
@@ -208,6 +230,11 @@ module _ (program : Program) where
   step_threw level Observe e v = in_handler level e (λ holding. doing (task.handling_violation level v) (holding ∷ []))
   step_threw level Enforce e v = in_handler level e (λ holding. doing (task.handling_violation level v) (holding ∷ task.terminate ∷ []))
   step_threw level QuickEnforce e v = ends (ended ContractTerminated)
+
+  -- the Caller's row, if there is a Caller
+  abbrev pub step_caller : Level → (Checks → List (Specifier Check)) → Option ℕ → (function : ℕ) → Does Next
+  step_caller level of None f = giving nothing
+  step_caller level of (Some unit) f = in_unit unit (λ within. doing (task.checks level Caller (of (caller_checks program no_calls unit f))) (within ∷ []))
 
   -- ---- objects
 
@@ -238,7 +265,7 @@ module _ (program : Program) where
     default ← some definition.default_constructor
     this ← this_place program no_calls
     in_full_expression level (λ full.
-        doing (task.call_on level default (place_in this leaf) []) (full ∷ task.keeping_field (place_in this leaf) (class t) ∷ task.then_next (task.default_fields level fields) ∷ []))
+        doing (task.construct_at level default (place_in this leaf) []) (full ∷ task.keeping_field (place_in this leaf) (class t) ∷ task.then_next (task.default_fields level fields) ∷ []))
   step_default_field level leaf other fields = doing (task.default_fields level fields) []
 
   abbrev pub step_default_fields : Level → List Field → Does Next
@@ -255,7 +282,7 @@ module _ (program : Program) where
   abbrev pub step_copying_object : Level → ObjectType → Address → Address → Does Next
   step_copying_object level (class t) source to = do
     definition ← class_at program no_calls t
-    doing (task.call_on level definition.copy_constructor to (address source ∷ [])) []
+    doing (task.construct_at level definition.copy_constructor to (address source ∷ [])) []
   step_copying_object level other source to = silent (copy_leaf program no_calls source to)
 
   abbrev pub step_copying_members : Level → List Field → Address → Address → Does Next
@@ -264,7 +291,7 @@ module _ (program : Program) where
 
   -- ---- calls
 
-  abbrev pub step_destructor : Level → Function → ℕ → Stmts → List Frame → Does Next
+  abbrev pub step_destructor : Level → Function → ℕ → Stmts Check → List Frame → Does Next
   step_destructor level f t b frames = do
     object_of ← this_place program no_calls
     definition ← class_at program no_calls t
@@ -276,14 +303,12 @@ module _ (program : Program) where
         ∷ task.destroyed definition.name object_of
         ∷ frames)
 
-  abbrev pub step_acting : Level → Body → Function → Call → List Frame → Does Next
+  abbrev pub step_acting : Level → Body Check → Function → Call → List Frame → Does Next
   step_acting level (parts.function b) f c frames = doing (task.before level f (site_of c)) (
       task.then_next (task.body level f.result b)
       ∷ task.postconditions level f (record c { arguments = [] })
       ∷ task.edge_if f.noexcept
       ∷ frames)
-  step_acting level (parts.violation_handler b) f c frames =
-      report program no_calls c.arguments >> doing (task.body level void b) (task.edge_if f.noexcept ∷ frames)
   step_acting level (parts.constructor fields b) f c frames = in_construction level (λ constructing.
       doing (task.before level f (site_of c)) (
       task.then_next (task.field_inits level fields)
@@ -309,6 +334,7 @@ module _ (program : Program) where
   step_active level c = do
     spend
     f ← some (slice_get program.functions c.function)
+    reported program no_calls c.reports
     frame ← current_frame
     set_frame (record { unit = unit_of program no_calls f c; variables = numbered program no_calls 0 c.arguments; result = c.result })
     step_acting level f.body f c (task.within frame ∷ [])
@@ -338,15 +364,16 @@ module _ (program : Program) where
   step_task (task.handling level h e) = step_handling level h e
   step_task (task.calling implicit depth c) = step_calling implicit depth c
   step_task (task.counted depth c) = step_counted depth c
-  step_task (task.call_of level f this a result) =
-      in_scope level (λ scope. doing (task.arguments level a) (this_first this (task.call_with level f result ∷ scope ∷ [])))
-  step_task (task.call_into level f a n) = in_scope level (λ scope. doing (task.arguments level a) (task.call_into_object level f n ∷ scope ∷ []))
-  step_task (task.call_on level f a arguments) = do
+  step_task (task.call_of level callee this a result) =
+      in_scope level (λ scope. doing (task.arguments level a) (this_first this (task.call_with level callee result ∷ scope ∷ [])))
+  step_task (task.call_into level callee a n) = in_scope level (λ scope. doing (task.arguments level a) (task.call_into_object level callee n ∷ scope ∷ []))
+  step_task (task.construct_at level f a arguments) = do
     frame ← current_frame
-    doing (calls level (record { function = f; unit = frame.unit; arguments = address a ∷ arguments; result = None })) (task.discard ∷ [])
+    doing (calls level (record { function = f; caller = Some frame.unit; unit = frame.unit; reports = None; arguments = address a ∷ arguments; result = None })) (task.discard ∷ [])
   step_task (task.destroying level c a) = do
     definition ← class_at program no_calls c
-    doing (task.call_on level definition.destructor a []) []
+    frame ← current_frame
+    doing (calls level (record { function = definition.destructor; caller = None; unit = frame.unit; reports = None; arguments = address a ∷ []; result = None })) (task.discard ∷ [])
   step_task (task.destroying_each level a fields) = step_destroying_each level a fields
   step_task (task.destroying_fields level c a) = do
     definition ← class_at program no_calls c
@@ -367,11 +394,10 @@ module _ (program : Program) where
   step_task (task.checks level party checks) = doing (task.evaluations level party (due_in_all checks) (map first_due checks)) []
   step_task (task.edged_checks level checks) = doing (task.checks level Definer checks) (task.edge_if true ∷ [])
   step_task (task.handling_violation level v) = step_handling_violation level program.handler v
-  step_task (task.before level f c) = in_unit c.unit (λ within.
-      doing (task.checks level Caller (caller_checks program no_calls c).preconditions) (within ∷ task.then_next (task.checks level Definer f.checks.preconditions) ∷ []))
+  step_task (task.before level f c) = doing (task.caller_before level c) (task.then_next (task.checks level Definer f.checks.preconditions) ∷ [])
   step_task (task.after level f c) = doing (task.checks level Definer f.checks.postconditions) (task.then_next (task.caller_after level c) ∷ [])
-  step_task (task.caller_after level c) =
-      in_unit c.unit (λ within. doing (task.checks level Caller (caller_checks program no_calls c).postconditions) (within ∷ []))
+  step_task (task.caller_before level c) = step_caller level (λ checks. checks.preconditions) c.caller c.function
+  step_task (task.caller_after level c) = step_caller level (λ checks. checks.postconditions) c.caller c.function
   step_task (task.body level kind b) = in_scope level (λ scope. doing (task.statements level b) (scope ∷ task.value_given kind ∷ []))
   step_task (task.field_inits level fields) = step_field_inits level fields
   step_task (task.default_fields level fields) = step_default_fields level fields
@@ -408,12 +434,11 @@ module _ (program : Program) where
   step_given (task.reference_argument level rest) g = on_value g (λ v. doing (task.arguments level rest) (task.first_argument v ∷ []))
   step_given (task.object_argument level rest) g = on_number g (λ n. doing (task.arguments level rest) (task.first_argument (object_place n) ∷ []))
   step_given (task.first_argument v) g = on_values g (λ vs. giving (values (v ∷ vs)))
-  step_given (task.call_with level f result) g = on_values g (λ vs. do
-    frame ← current_frame
-    doing (calls level (record { function = f; unit = frame.unit; arguments = vs; result = result })) [])
-  step_given (task.call_into_object level f n) g = on_values g (λ vs. do
-    frame ← current_frame
-    doing (calls level (record { function = f; unit = frame.unit; arguments = vs; result = Some (object_place n) })) (task.read_result n ∷ []))
+  step_given (task.call_through level kind a) g = on_value g (λ p. step_call_through level kind p a)
+  step_given (task.result_through level a place) g =
+      on_value g (λ p. doing (task.call_of level (by_pointer p) None a (Some (address place))) (task.discard ∷ []))
+  step_given (task.call_with level callee result) g = on_values g (λ vs. step_call_to level callee vs result [])
+  step_given (task.call_into_object level callee n) g = on_values g (λ vs. step_call_to level callee vs (Some (object_place n)) (task.read_result n ∷ []))
   step_given (task.read_result n) g = valued (read (record { object = n; leaf = 0 }))
   step_given (task.end_result n) g = on_value g (λ v. valued (end_lifetime n >> gives v))
   step_given (task.end_object n) g = silent (end_lifetime n)

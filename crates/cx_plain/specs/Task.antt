@@ -5,12 +5,13 @@ use Rattle.cx_core.specs.declared.number.BinaryOperator.{BinaryOperator}
 use Rattle.cx_core.specs.declared.number.UnaryOperator.{UnaryOperator}
 use Rattle.cx_core.specs.declared.number.Query.{Query}
 use Rattle.cx_core.specs.Words.{Party, Semantic, Violation}
-use Rattle.cx_core.specs.Tree.{ObjectType, Expr, Operand, Init, Args, Assertion, Check, Condition, Stmt, Stmts, Handlers}
+use Rattle.cx_core.specs.Tree.{ObjectType, PointedResult, Expr, Operand, Init, Args, Assertion, Check, Specifier, Condition, Stmt, Stmts, Handlers}
 use Rattle.cx_core.specs.Program.{FieldInit, Field, ResultKind, Function}
 use Rattle.cx_core.specs.Store.{Address, Value}
 use Rattle.cx_core.specs.Outcome.{Living, Exception, Frame as ActiveFrame}
 use Rattle.cx_core.specs.Leaving.{Call}
 use Rattle.cx_core.specs.Statements.{Completion}
+use Rattle.cx_core.specs.Calls.{Callee}
 
 -- the calls that may still become active inside one another: those that are counted, and the implicit ones before the next of these
 pub record Level : Type 0 where
@@ -56,12 +57,12 @@ pub data Keeper : Type 0 where
 -- a loop: its condition, its step, which only a `for` has, and its body
 pub record Loop : Type 0 where
   pub condition : Condition
-  pub step : Option Stmt
-  pub body : Stmt
+  pub step : Option (Stmt Check)
+  pub body : Stmt Check
 
 -- an assertion of a row, as often as it is still owed
 pub record Due : Type 0 where
-  pub check : Check
+  pub check : Specifier Check
   pub left : ℕ
 
 pub data Task : Type 0 where
@@ -72,15 +73,15 @@ pub data Task : Type 0 where
   evaluated_truth : Level → Operand → Task
   initialise : Level → Init → Address → Task
   arguments : Level → Args → Task
-  statement : Level → Stmt → Task
-  statements : Level → Stmts → Task
-  block : Level → Stmts → Task
-  handling : Level → Handlers → Exception → Task
+  statement : Level → Stmt Check → Task
+  statements : Level → Stmts Check → Task
+  block : Level → Stmts Check → Task
+  handling : Level → Handlers Check → Exception → Task
   calling : (implicit : ℕ) → (depth : ℕ) → Call → Task
   counted : (depth : ℕ) → Call → Task
-  call_of : Level → (function : ℕ) → (this : Option Address) → Args → (result : Option Value) → Task
-  call_into : Level → (function : ℕ) → Args → (object : ℕ) → Task
-  call_on : Level → (function : ℕ) → Address → List Value → Task
+  call_of : Level → Callee → (this : Option Address) → Args → (result : Option Value) → Task
+  call_into : Level → Callee → Args → (object : ℕ) → Task
+  construct_at : Level → (constructor : ℕ) → Address → List Value → Task
   destroying : Level → (class : ℕ) → Address → Task
   destroying_each : Level → Address → List (ℕ × ℕ) → Task
   destroying_fields : Level → (class : ℕ) → Address → Task
@@ -93,13 +94,14 @@ pub data Task : Type 0 where
   looping : Level → Loop → Task
   turns : Level → Loop → ℕ → Task
   evaluations : Level → Party → ℕ → List Due → Task
-  checks : Level → Party → List Check → Task
-  edged_checks : Level → List Check → Task
+  checks : Level → Party → List (Specifier Check) → Task
+  edged_checks : Level → List (Specifier Check) → Task
   handling_violation : Level → Violation → Task
   before : Level → Function → Call → Task
   after : Level → Function → Call → Task
+  caller_before : Level → Call → Task
   caller_after : Level → Call → Task
-  body : Level → ResultKind → Stmts → Task
+  body : Level → ResultKind → Stmts Check → Task
   field_inits : Level → List FieldInit → Task
   default_fields : Level → List Field → Task
   copying_fields : Level → (source : Address) → List Field → Task
@@ -120,8 +122,10 @@ pub data Frame : Type 0 where
   reference_argument : Level → Args → Frame
   object_argument : Level → Args → Frame
   first_argument : Value → Frame
-  call_with : Level → (function : ℕ) → (result : Option Value) → Frame
-  call_into_object : Level → (function : ℕ) → (object : ℕ) → Frame
+  call_through : Level → PointedResult → Args → Frame
+  result_through : Level → Args → Address → Frame
+  call_with : Level → Callee → (result : Option Value) → Frame
+  call_into_object : Level → Callee → (object : ℕ) → Frame
   read_result : (object : ℕ) → Frame
   end_result : (object : ℕ) → Frame
   end_object : (object : ℕ) → Frame
@@ -149,9 +153,9 @@ pub data Frame : Type 0 where
   within : ActiveFrame → Frame
   edge_if : Bool → Frame
   -- statements
-  branch : Level → Stmt → Stmt → Frame
-  sequence : Level → Stmts → Frame
-  catching : Level → Handlers → Frame
+  branch : Level → Stmt Check → Stmt Check → Frame
+  sequence : Level → Stmts Check → Frame
+  catching : Level → Handlers Check → Frame
   turn_tested : Level → Loop → ℕ → Frame
   turn_done : Level → Loop → ℕ → Frame
   -- checks and calls

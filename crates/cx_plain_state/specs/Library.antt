@@ -8,7 +8,7 @@ use Rattle.cx_core.specs.declared.number.IntegerType.{IntegerType}
 use Rattle.cx_core.specs.Event.{out}
 use Rattle.cx_core.specs.Outcome.{Does, Nothing, ◌>>=◌, ◌>>◌, gives, some, append, spend, spend_all, read}
 use Rattle.cx_core.specs.Operators.{number_of, of_type}
-use Rattle.cx_core.specs.Library.{write_bytes, byte_of, query_units, told_number, violation_in, puts_call}
+use Rattle.cx_core.specs.Library.{write_bytes, byte_of, query_units, told_number, violation_in, puts_bytes}
 
 abbrev pub write_byte : ℕ → Does Nothing
 write_byte b = spend >> append (out b)
@@ -40,7 +40,7 @@ abbrev pub puts_comment_of : Value → Does Value
 puts_comment_of report = do
   v ← some (violation_in report)
   spend_all 2
-  puts_call v.comment
+  puts_bytes v.comment
 
 -- the number of the type that stands at a place
 abbrev pub number_at : IntegerType → Address → Does ℤ

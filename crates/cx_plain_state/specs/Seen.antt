@@ -7,7 +7,7 @@ use Rattle.cx_core.specs.Store as store
 use Rattle.cx_core.specs.Event as event
 use Rattle.cx_core.specs.Outcome as outcome
 use Rattle.cx_core.specs.Check as check
-use Rattle.cx_core.specs.Linked.{assertion_of}
+use Rattle.cx_core.specs.View.{assertion_of, object_type}
 use Rattle.cx_core.specs.Words.{Violation}
 use Rattle.cx_plain_state.specs.declared.value.ObjectType.{ObjectType}
 use Rattle.cx_plain_state.specs.declared.value.ObjectType.TheVariants as types
@@ -30,7 +30,8 @@ use Rattle.cx_plain_state.specs.declared.state.State.{State}
 
 abbrev pub type_of : ObjectType → tree.ObjectType
 type_of (types.Scalar s) = tree.scalar s
-type_of types.Pointer = tree.pointer
+type_of (types.Pointer to) = tree.pointer (object_type to)
+type_of (types.FunctionPointer t) = tree.function_pointer t
 type_of (types.Class c) = tree.class c
 
 abbrev pub address_of : Address → store.Address
@@ -43,6 +44,7 @@ abbrev pub value_of : Value → store.Value
 value_of (values.Number n) = store.number n
 value_of (values.Address a) = store.address (address_of a)
 value_of values.Null = store.null
+value_of (values.Function f) = store.function f
 value_of (values.Violation r) = store.violation (violation_of r)
 
 abbrev pub living_of : Living → outcome.Living

@@ -10,8 +10,6 @@ mod operations;
 mod operators;
 mod state;
 mod store;
-#[cfg(test)]
-mod tests;
 mod value;
 
 pub use answer::{Answer, Evaluation, Event, Exception, Halt, Living};

@@ -1,6 +1,6 @@
 ghost use Rattle.std.specs.Prelude.{◌≡◌, [], ◌∷◌};
 ghost use Rattle.cx_core.specs.Event.{semantic_number};
-ghost use Rattle.cx_core.specs.Library.{byte_of, kind_number, mode_number, told_number, query_units, write_bytes, next_byte, getchar_call, puts_call};
+ghost use Rattle.cx_core.specs.Library.{byte_of, kind_number, mode_number, told_number, query_units, write_bytes, next_byte, getchar_call, puts_bytes, puts_call};
 ghost use Rattle.cx_core.specs.Outcome.{spend_all};
 ghost use Rattle.cx_plain_state.specs.Library.{write_byte, number_in, putchar_of, write_line, violation_or_mixed, query_of, puts_comment_of};
 ghost use Rattle.cx_plain_state.specs.Seen.{state_of, value_of, violation_of};
@@ -164,14 +164,22 @@ impl<'p> State<'p> {
         }
     }
 
-    /// `puts` of a text.
+    /// `puts` of a text that is there.
     #[tactic(auto, unfolding(crate::specs::Library::write_line, cx_core::specs::Outcome::either, cx_core::specs::Outcome::gives))]
     pub fn puts(&mut self, text: &[u8]) -> Result<Value<'p>, Halt>
-        ensures { Ran value_of (puts_call text.now (state_of self.old)) result (state_of self.new) }
+        ensures { Ran value_of (puts_bytes text.now (state_of self.old)) result (state_of self.new) }
     {
         self.spend()?;
         self.write_line(text)?;
         Ok(Value::Number(0))
+    }
+
+    /// `puts` of a literal, whose evaluation is of it.
+    pub fn puts_literal(&mut self, text: &[u8]) -> Result<Value<'p>, Halt>
+        ensures { Ran value_of (puts_call text.now (state_of self.old)) result (state_of self.new) }
+    {
+        self.spend()?;
+        self.puts(text)
     }
 
     fn report_in(&self, value: Value<'p>) -> Result<Report<'p>, Halt>

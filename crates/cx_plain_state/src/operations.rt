@@ -28,6 +28,7 @@ impl<'p> State<'p> {
             Value::Number(n) => Ok(n != 0),
             Value::Address(_) => Ok(true),
             Value::Null => Ok(false),
+            Value::Function(_) => Ok(true),
             Value::Violation(_) => Err(undefined(Kind::Mixed)),
         }
     }
@@ -40,6 +41,7 @@ impl<'p> State<'p> {
             Value::Address(a) => Ok(a),
             Value::Null => Err(undefined(Kind::Null)),
             Value::Number(_) => Err(undefined(Kind::Mixed)),
+            Value::Function(_) => Err(undefined(Kind::Mixed)),
             Value::Violation(_) => Err(undefined(Kind::Mixed)),
         }
     }

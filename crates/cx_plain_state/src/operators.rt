@@ -46,8 +46,10 @@ pub(crate) fn fits(of: ObjectType, value: Value<'_>) -> bool
 {
     match (of, value) {
         (ObjectType::Scalar(scalar), Value::Number(n)) => fits_integer(integer_of(scalar), n),
-        (ObjectType::Pointer, Value::Address(_)) => true,
-        (ObjectType::Pointer, Value::Null) => true,
+        (ObjectType::Pointer(_), Value::Address(_)) => true,
+        (ObjectType::Pointer(_), Value::Null) => true,
+        (ObjectType::FunctionPointer(_), Value::Function(_)) => true,
+        (ObjectType::FunctionPointer(_), Value::Null) => true,
         _ => false,
     }
 }
@@ -60,6 +62,7 @@ pub(crate) fn value_number(of: IntegerType, value: Value<'_>) -> Option<i128>
         (Value::Number(n), _) => Some(converted_number(of, n)),
         (Value::Address(_), IntegerType::Bool) => Some(truth_number(true)),
         (Value::Null, IntegerType::Bool) => Some(truth_number(false)),
+        (Value::Function(_), IntegerType::Bool) => Some(truth_number(true)),
         _ => None,
     }
 }
@@ -79,6 +82,9 @@ pub(crate) fn same_pointer(x: Value<'_>, y: Value<'_>) -> Option<bool>
         (Value::Address(_), Value::Null) => Some(false),
         (Value::Null, Value::Address(_)) => Some(false),
         (Value::Null, Value::Null) => Some(true),
+        (Value::Function(f), Value::Function(g)) => Some(f == g),
+        (Value::Function(_), Value::Null) => Some(false),
+        (Value::Null, Value::Function(_)) => Some(false),
         _ => None,
     }
 }

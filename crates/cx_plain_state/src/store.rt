@@ -1,7 +1,7 @@
 ghost use Rattle.std.specs.Prelude.{◌≡◌, ◌<◌, ◌≤◌, length, map, IfSome, IfOk, MatchResult, Ok, Err, None, replicate, slice_get, slice_set};
 ghost use Rattle.std.specs.Bool.{OnTrue, OnFalse};
 ghost use Rattle.std.specs.Option.{option_map};
-ghost use Rattle.cx_core.specs.Outcome.{make, remove, read_leaf, read, write};
+ghost use Rattle.cx_core.specs.Outcome.{add, make, remove, read_leaf, read, write};
 ghost use Rattle.cx_core.specs.Store.{leaf_at, written};
 ghost use Rattle.cx_plain_state.specs.Place.{index_of, leaf_read};
 ghost use Rattle.cx_plain_state.specs.Seen.{state_of, value_of, leaf_of, leaves_seen, object_of, address_of};
@@ -118,9 +118,9 @@ impl<'p> State<'p> {
         }
     }
 
-    /// An object of so many leaves, all unset, is made under the next number.
-    pub fn make(&mut self, alloc: Global, leaves: usize) -> Result<u64, Halt>
-        ensures { Ran itself (make leaves (state_of self.old)) result (state_of self.new) }
+    /// An object of so many leaves, all unset, is added under the next number.
+    fn add(&mut self, alloc: Global, leaves: usize) -> Result<u64, Halt>
+        ensures { Ran itself (add leaves (state_of self.old)) result (state_of self.new) }
     {
         let number = self.next;
         let Some(next) = number.checked_add(1) else {
@@ -140,5 +140,16 @@ impl<'p> State<'p> {
             None => (),
             Some(i) => drop(self.objects.remove(i)),
         }
+    }
+}
+
+#[tactic(auto, unfolding(cx_core::specs::Outcome::either, cx_core::specs::Outcome::gives, cx_core::specs::Outcome::ends))]
+impl<'p> State<'p> {
+    /// An object of so many leaves, all unset, is made under the next number; its unit is spent before there is one.
+    pub fn make(&mut self, alloc: Global, leaves: usize) -> Result<u64, Halt>
+        ensures { Ran itself (make leaves (state_of self.old)) result (state_of self.new) }
+    {
+        self.spend()?;
+        self.add(alloc, leaves)
     }
 }

@@ -1,13 +1,15 @@
 use cx_code::{DetectionMode, Semantic};
 use cx_core::Assertion;
-use cx_types::Scalar;
+use cx_types::{Scalar, ValueType};
 
-/// The type of an object, `const` aside: what a pointer points to makes no difference to the object. (This project's
-/// own.)
+/// The type of an object, `const` aside. (This project's own.)
 #[derive(Clone, Copy)]
 pub enum ObjectType {
     Scalar(Scalar),
-    Pointer,
+    /// A pointer, by the type of what it points to.
+    Pointer(ValueType),
+    /// A pointer to a function, by the number of the function's type.
+    FunctionPointer(u32),
     /// A class by its number.
     Class(u32),
 }
@@ -35,5 +37,7 @@ pub enum Value<'p> {
     Number(i128),
     Address(Address),
     Null,
+    /// A function by its number, which a pointer to it holds.
+    Function(u32),
     Violation(Report<'p>),
 }

@@ -7,8 +7,6 @@ mod item;
 pub mod laws;
 mod rule;
 mod search;
-#[cfg(test)]
-mod tests;
 
 pub use arriving::{Arrival, Depths};
 pub use item::Item;

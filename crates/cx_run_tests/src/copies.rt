@@ -37,7 +37,7 @@ pub fn statements(alloc: Global, list: &[Statement]) -> Result<Vec<Statement>, N
 fn statement(alloc: Global, s: &Statement) -> Result<Statement, NoCopy> {
     match s {
         Statement::Empty => Ok(Statement::Empty),
-        Statement::Expression(e) => Ok(Statement::Expression(expression(alloc, e)?)),
+        Statement::Expression(a) => Ok(Statement::Expression(operand(alloc, a)?)),
         Statement::Variable(slot, of, Initializer::Value(a)) => {
             let value = Initializer::Value(operand(alloc, a)?);
             Ok(Statement::Variable(*slot, *of, value))

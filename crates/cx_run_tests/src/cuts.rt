@@ -7,10 +7,33 @@ use cx_plain_state::Answer;
 use std::alloc::Global;
 use std::test::Fail;
 
-/// The first number of steps, below those of its whole run, at which a program doesn't permit the machine's run.
-pub fn first_other_cut(alloc: Global, subject: &Subject, steps: u32) -> Result<Option<u32>, Fail> {
+/// The steps after which a run is cut.
+#[derive(Clone, Copy)]
+pub enum Cuts {
+    /// Each one.
+    Each,
+    /// Those at which it must have spent one more unit, and no other: for long runs.
+    Each64th,
+}
+
+impl Cuts {
+    fn are_after(self, limit: u32) -> bool {
+        match self {
+            Cuts::Each => true,
+            Cuts::Each64th => limit % 64 == 0,
+        }
+    }
+}
+
+/// The first of such numbers of steps, below those of its whole run, at which a program doesn't permit the machine's run.
+pub fn first_other_cut(
+    alloc: Global,
+    subject: &Subject,
+    steps: u32,
+    cuts: Cuts,
+) -> Result<Option<u32>, Fail> {
     for limit in 1..steps {
-        if !is_cut_run(alloc, subject, limit)? {
+        if cuts.are_after(limit) && !is_cut_run(alloc, subject, limit)? {
             return Ok(Some(limit));
         }
     }

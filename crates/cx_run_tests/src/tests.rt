@@ -1,5 +1,5 @@
 use crate::begins::begins_in;
-use crate::cuts::first_other_cut;
+use crate::cuts::{Cuts, first_other_cut};
 use crate::subject::{Subject, budget_of};
 use crate::told::{machine, meaning};
 use crate::units::flow::LONG;
@@ -82,10 +82,10 @@ fn bytes_are_written_in_order(rt: HostRuntime) -> Result<(), Fail> {
 }
 
 /// A unit's run is one that it permits wherever it is cut.
-fn check_cuts(rt: &impl Abort, alloc: Global, unit: &Unit) -> Result<(), Fail> {
+fn check_cuts(rt: &impl Abort, alloc: Global, unit: &Unit, cuts: Cuts) -> Result<(), Fail> {
     let subject = Subject::new(alloc, unit.semantic, unit.text.as_bytes())?;
     let run = subject.run(LIMIT)?;
-    let other = first_other_cut(alloc, &subject, run.steps)?;
+    let other = first_other_cut(alloc, &subject, run.steps, cuts)?;
     let shows = unit.shows;
     assert_eq!(rt; other, None, "{shows}");
     Ok(())
@@ -95,7 +95,7 @@ fn check_cuts(rt: &impl Abort, alloc: Global, unit: &Unit) -> Result<(), Fail> {
 fn a_run_is_permitted_wherever_it_is_cut(rt: HostRuntime) -> Result<(), Fail> {
     for units in TABLES {
         for unit in units.iter().filter(|unit| unit.cut) {
-            check_cuts(&rt, rt.alloc(), unit)?;
+            check_cuts(&rt, rt.alloc(), unit, Cuts::Each)?;
         }
     }
     Ok(())
@@ -104,5 +104,5 @@ fn a_run_is_permitted_wherever_it_is_cut(rt: HostRuntime) -> Result<(), Fail> {
 #[test]
 fn a_run_of_many_steps_is_permitted_wherever_it_is_cut(rt: HostRuntime) -> Result<(), Fail> {
     check_unit(&rt, rt.alloc(), &LONG)?;
-    check_cuts(&rt, rt.alloc(), &LONG)
+    check_cuts(&rt, rt.alloc(), &LONG, Cuts::Each64th)
 }

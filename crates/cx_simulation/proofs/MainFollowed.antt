@@ -2,7 +2,7 @@
 use Rattle.std.proofs.Common.{◌≡◌, ◌≢◌, ℕ, ℤ, true, ◌+◌, ◌≤◌, List, [], reverse, refl, sym, ap, ◌∙◌, subst, arith}
 use Rattle.cx_code.specs.State.{initial}
 use Rattle.cx_core.specs.Words.{Ending, Returned, Terminated, Undefined, Mixed}
-use Rattle.cx_core.specs.Store.{Value, number, address, null, violation}
+use Rattle.cx_core.specs.Store.{Value, number, address, null, function, violation}
 use Rattle.cx_core.specs.Event.{Event, Evaluation, ended, going, waiting, not_a_run}
 use Rattle.cx_core.specs.Outcome.{State, Outcome, on, thrown, over}
 use Rattle.cx_core.specs.declared.number.IntegerType.TheVariants as types
@@ -33,6 +33,7 @@ module _ {C : Type 0} (step : C → Progress C) where
       go (on (number v) t) a other ints = (t.trace, refl, ends_whole n budget s c 0 (Returned v) t e f 0 31 (omega arith) (leads_less step n s c 0 31 0 0 31 0 (omega arith) (omega arith) (λ d. in_range types.Int v ≡ true → EndsSoon step (Returned v) d t) (λ d. EndsSoon step (Returned v) d t) t (λ d soon. soon (ints v refl)) a))
       go (on (address x) t) a other ints = absurd (other refl)
       go (on null t) a other ints = absurd (other refl)
+      go (on (function f) t) a other ints = absurd (other refl)
       go (on (violation v) t) a other ints = absurd (other refl)
       go (thrown x t) a other ints = (t.trace, refl, ends_whole n budget s c 0 Terminated t e f 0 31 (omega arith) a)
       go (over (ended ending) t) a other ints =

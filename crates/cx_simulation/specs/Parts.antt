@@ -4,7 +4,7 @@ use Rattle.cx_core.specs.Words.{Ending, Returned, Terminated, Undefined, Mixed}
 use Rattle.cx_core.specs.Event.{Evaluation, Event, ended, going, waiting, not_a_run}
 use Rattle.cx_core.specs.Outcome.{Exception, State, Outcome, on, thrown, over}
 use Rattle.cx_core.specs.Program.{Program}
-use Rattle.cx_core.specs.Store.{Value, number, address, null, violation}
+use Rattle.cx_core.specs.Store.{Value, number, address, null, function, violation}
 use Rattle.cx_core.specs.declared.number.IntegerType.TheVariants as types
 use Rattle.cx_core.specs.Number.{in_range}
 use Rattle.cx_core.specs.Meaning.{mean, start, main_call, calls_within, depth_limit}
@@ -123,6 +123,7 @@ module _ {C : Type 0} (step : C → Progress C) where
   HasReturned (number v) d t = in_range types.Int v ≡ true → EndsSoon (Returned v) d t
   HasReturned (address a) d t = Unit {0}
   HasReturned null d t = Unit {0}
+  HasReturned (function f) d t = Unit {0}
   HasReturned (violation v) d t = Unit {0}
 
   -- where an exception has left it

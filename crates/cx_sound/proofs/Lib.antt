@@ -9,3 +9,4 @@ pub mod Thrown
 pub mod Acts
 pub mod Unwinds
 pub mod GoesOn
+pub mod Unread

@@ -1,4 +1,5 @@
 //! Laws of the runs of a valid image. Each function does nothing: its contract is the law.
+ghost use Rattle.cx_sound.specs.Unread.{UnreadInputMakesNoDifference};
 ghost use Rattle.cx_sound.specs.Laws.{EachInstructionHasWhatItTakes, EachMoveHasItsRegions, GoesOn, Starts};
 
 /// A run of a valid image starts in a sound state.
@@ -20,4 +21,9 @@ pub fn has_what_it_takes()
 /// target is in the code.
 pub fn has_regions()
     ensures { EachMoveHasItsRegions }
+{}
+
+/// An image none of whose instructions reads the input runs alike on all inputs.
+pub fn unread_input_makes_no_difference()
+    ensures { UnreadInputMakesNoDifference }
 {}

@@ -11,6 +11,3 @@ pub use items::Items;
 pub use mark::{Mark, Punct, Word};
 pub use no_memory::NoMemory;
 pub use token::{Token, TokenKind};
-
-#[cfg(test)]
-mod tests;

@@ -23,6 +23,7 @@ use Rattle.cx_faults.specs.Faults.{IsFaultless, IsListFault, open_count, place_o
 use Rattle.cx_faults.proofs.Firsts.{no_fault}
 use Rattle.cx_tool.specs.Faults.{fault_answer, list_fault_answer, HasFault, IsListAnswer}
 use Rattle.cx_tool.specs.Report.{Comes}
+use Rattle.cx_tool.specs.Causes.{IsWithoutFault}
 use Rattle.cx_tool.specs.Exec.{HasStopCause, IsStoppedBy, IsWant}
 
 -- a fault that isn't the unit's, where no call failed
@@ -48,9 +49,17 @@ wants_memory wanted (Err y) x h e = inr (h ∙ e)
 pub no_outside : (list : Assembled) (tree : CoreUnit) → IsUnitOf list tree → length list.placed ≤ most_tokens → IsOutside list → ⊥
 no_outside list tree is few outside = elim outside [ inl none ↦ none tree is | inr many ↦ absurd (omega arith) ]
 
-pub built : (list other : Assembled) (tree : CoreUnit) (answer : Answer) (unit : List ℕ) → IsUnitOf list tree → length list.placed ≤ most_tokens → other ≡ list
-    → (answer ≡ answers.OutOfMemory) ⊎ ((answer ≡ answers.Unbuilt unit) × IsOutside other) → answer ≡ answers.OutOfMemory
-built list other tree answer unit is few same cause = elim cause [ inl e ↦ e | inr unbuilt ↦ absurd (no_outside list tree is few (subst IsOutside same unbuilt.1)) ]
+-- a unit without a fault has no list with one
+pub no_list_cause : (content : Option Folder) (folder : Folder) (unit : List ℕ) (list : Assembled) (answer : Answer) → content ≡ Some folder → IsListOver content unit list → IsWithoutFault folder unit
+    → (answer ≡ answers.OutOfMemory) ⊎ IsListAnswer unit list answer → answer ≡ answers.OutOfMemory
+no_list_cause content folder unit list answer told listed faultless cause =
+    elim cause [ inl e ↦ e | inr its ↦ absurd (faultless.no_list_fault list its.fault (subst (λ (c : Option Folder). IsListOver c unit list) told listed) its.is) ]
+
+-- and none that isn't built
+pub no_build_cause : (content : Option Folder) (folder : Folder) (unit : List ℕ) (list : Assembled) (answer : Answer) → content ≡ Some folder → IsListOver content unit list → IsFaultless list → IsWithoutFault folder unit
+    → (answer ≡ answers.OutOfMemory) ⊎ ((answer ≡ answers.Unbuilt unit) × IsOutside list) → answer ≡ answers.OutOfMemory
+no_build_cause content folder unit list answer told listed fine faultless cause =
+    elim cause [ inl e ↦ e | inr unbuilt ↦ absurd (faultless.built list (subst (λ (c : Option Folder). IsListOver c unit list) told listed) fine unbuilt.1) ]
 
 -- what is told of a list's unit
 pub unit_told : (list : Assembled) (told : Option CoreUnit) (unit : CoreUnit) → told ≡ Some unit → MatchOption told ((other : CoreUnit) → IsUnitOf list other → ⊥) (IsUnitOf list) → IsUnitOf list unit

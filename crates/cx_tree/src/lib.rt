@@ -4,6 +4,3 @@
 mod tree;
 
 pub use tree::parse;
-
-#[cfg(test)]
-mod tests;

@@ -4,7 +4,7 @@ use Rattle.std.specs.List.{All}
 use Rattle.std.proofs.lemmas.List.Elements.{All-nil, All-cons, All-head, All-tail}
 use Rattle.cx_core.specs.declared.number.IntegerType.{IntegerType}
 use Rattle.cx_core.specs.Words.{Party, Semantic, Ignore, Observe, Enforce, QuickEnforce, False, Holds, PredicateFalse, Violation, ContractTerminated}
-use Rattle.cx_core.specs.Tree.{Check, Assertion, Operand}
+use Rattle.cx_core.specs.Tree.{Check, Specifier, Assertion, Operand}
 use Rattle.cx_core.specs.Event.{Evaluation, Event, same_evaluation, verdict, handler, Answer, ended, not_a_run}
 use Rattle.cx_core.specs.Outcome.{Does, Nothing, nothing, skip, ◌>>=◌, ◌>>◌, spend, append, ends}
 use Rattle.cx_core.specs.Block.{Owed, Continued, has_stood, once_less, behind, continued, if_permitted, begin_told, evaluations}
@@ -81,7 +81,7 @@ module _ (types : Types) (slots : Slots) where
 
   module _ (program : Program) (calls : Calls) (default : program.handler ≡ None) where
     handled_kept : (f : Option ℕ) → f ≡ None → (v : Violation) → Kept (handle_by program calls f v)
-    handled_kept None e v = append_kept (handler v)
+    handled_kept None e v = then_kept (spend_keeps types slots) (λ _. append_kept (handler v))
     handled_kept (Some f) e v = absurd cc
 
     violated_kept : (semantic : Semantic) (v : Violation) → Kept (violated program calls semantic (handle program calls v))
@@ -101,9 +101,9 @@ module _ (types : Types) (slots : Slots) where
     pub condition_keeps : (a : Operand) → IsCondition slots a → Kept (evaluated program calls a >>= truth)
     condition_keeps a h = then_keeps types slots (IsIn h.0) (evaluated_keeps a h.0 h.1) (truth_keeps types slots h.0)
 
-    evaluation_kept : (c : Check) → IsCondition slots c.predicate → Kept (evaluation program calls c (evaluated program calls c.predicate))
-    evaluation_kept c h =
-        then_comes (TypedBy types slots) Always (verdict_threw program calls c.assertion c.semantic) (condition_keeps c.predicate h) (λ holds _. verdict_kept c.assertion c.semantic holds)
+    evaluation_kept : (c : Check) (predicate : Operand) → IsCondition slots predicate → Kept (evaluation program calls c (evaluated program calls predicate))
+    evaluation_kept c predicate h =
+        then_comes (TypedBy types slots) Always (verdict_threw program calls c.assertion c.semantic) (condition_keeps predicate h) (λ holds _. verdict_kept c.assertion c.semantic holds)
 
-    pub check_keeps : (party : Party) (c : Check) → IsCondition slots c.predicate → Keeps types slots Always (checked program calls party (c ∷ []))
-    check_keeps party c h = evaluations_kept _ (owed program calls party c ∷ []) (All-cons IsKept (owed program calls party c) [] (evaluation_kept c h) (All-nil IsKept))
+    pub check_keeps : (party : Party) (s : Specifier Check) → IsCondition slots s.predicate → Keeps types slots Always (checked program calls party (s ∷ []))
+    check_keeps party s h = evaluations_kept _ (owed program calls party s ∷ []) (All-cons IsKept (owed program calls party s) [] (evaluation_kept s.of s.predicate h) (All-nil IsKept))

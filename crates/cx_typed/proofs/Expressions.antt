@@ -10,7 +10,7 @@ use Rattle.cx_core.specs.Words.{Kind, Mixed, Undefined}
 use Rattle.cx_core.specs.Number.{in_range, converted_number, unary_number, binary_number}
 use Rattle.cx_core.specs.Tree as tree
 use Rattle.cx_core.specs.Tree.{ObjectType, scalar, Expr, literal, variable, unary, binary, Operand, operand}
-use Rattle.cx_core.specs.Store.{Value, number, address, null, violation}
+use Rattle.cx_core.specs.Store.{Value, number, address, null, function, violation}
 use Rattle.cx_core.specs.Event.{ended}
 use Rattle.cx_core.specs.Outcome.{Does, ◌>>=◌, throws, spend, gives, some, undefined, place_of}
 use Rattle.cx_core.specs.Program.{Program}
@@ -51,12 +51,14 @@ module _ (types : Types) (slots : Slots) where
   converted_to_keeps from (Some to) type (number n) same h = given_keeps type (converted_number to n) (subst (λ t. in_range t (converted_number to n) ≡ true) (sym same) (converted_in_range to n))
   converted_to_keeps from (Some to) type (address a) same h = absurd h
   converted_to_keeps from (Some to) type null same h = absurd h
+  converted_to_keeps from (Some to) type (function v) same h = absurd h
   converted_to_keeps from (Some to) type (violation v) same h = absurd h
 
   pub place_keeps : (type : IntegerType) (v : Value) → IsPlace types type v → Keeps (λ a. types a.object ≡ type) (place_of v)
   place_keeps type (address a) h = gives_keeps (λ a. types a.object ≡ type) a h
   place_keeps type (number n) h = absurd h
   place_keeps type null h = absurd h
+  place_keeps type (function v) h = absurd h
   place_keeps type (violation v) h = absurd h
 
   fitting_keeps : (s : Scalar) (type : IntegerType) (v : Value) → integer_of s ≡ Some type → IsIn type v → Keeps (IsIn type) (fitting (scalar s) v)
@@ -67,6 +69,7 @@ module _ (types : Types) (slots : Slots) where
       where_fitting false e = absurd cc
   fitting_keeps s type (address a) e h = absurd h
   fitting_keeps s type null e h = absurd h
+  fitting_keeps s type (function v) e h = absurd h
   fitting_keeps s type (violation v) e h = absurd h
 
   read_as_keeps : (s : Scalar) (type : IntegerType) (v : Value) → integer_of s ≡ Some type → IsPlace types type v → Keeps (IsIn type) (read_as (Some (scalar s)) v)
@@ -88,6 +91,7 @@ module _ (types : Types) (slots : Slots) where
   of_type_keeps type (number n) h = then_keeps (λ m. m ≡ n) (gives_keeps (λ m. m ≡ n) n refl) (λ m e. subst (λ x. Keeps Always (if in_range type x then gives x else undefined Mixed)) (sym e) (taken type n (in_range type n) h))
   of_type_keeps type (address a) h = absurd h
   of_type_keeps type null h = absurd h
+  of_type_keeps type (function v) h = absurd h
   of_type_keeps type (violation v) h = absurd h
 
   unary_keeps : (operator : UnaryOperator) (type : IntegerType) (m : Does Value) → Keeps (IsIn type) m → Keeps (IsIn type) (unary_operation operator type m)
@@ -104,9 +108,11 @@ module _ (types : Types) (slots : Slots) where
       operated_if_keeps (binary_type operator) (binary_number operator integers.Int x y) (operands_fit operator integers.Int x y) (operands_in_range_fit integers.Int x y h k operator) (typed_in_range operator x y h k)
   operated_keeps operator (number x) (address b) h k = absurd k
   operated_keeps operator (number x) null h k = absurd k
+  operated_keeps operator (number x) (function b) h k = absurd k
   operated_keeps operator (number x) (violation b) h k = absurd k
   operated_keeps operator (address a) y h k = absurd h
   operated_keeps operator null y h k = absurd h
+  operated_keeps operator (function a) y h k = absurd h
   operated_keeps operator (violation a) y h k = absurd h
 
   binary_keeps : (operator : BinaryOperator) (left right : Does Value) → Keeps (IsIn integers.Int) left → Keeps (IsIn integers.Int) right → Keeps (IsIn (binary_type operator)) (binary_operation operator integers.Int left right)
@@ -118,6 +124,7 @@ module _ (types : Types) (slots : Slots) where
   truth_keeps type (number n) h = gives_keeps Always _ (tt {0})
   truth_keeps type (address a) h = absurd h
   truth_keeps type null h = absurd h
+  truth_keeps type (function v) h = absurd h
   truth_keeps type (violation v) h = absurd h
 
   -- ---- expressions

@@ -11,6 +11,7 @@ use Rattle.cx_emit.specs.Values.{IsStore}
 use Rattle.cx_emit.specs.Units.{HaveGlobals, ImagesOfMainAreFaithful}
 use Rattle.cx_typed.specs.Unit.{program_of, body_of}
 use Rattle.cx_typed.specs.Laws.{ImagesOfTypedUnitsAreFaithful}
+use Rattle.cx_typed.proofs.Renaming.{body_typed}
 use Rattle.cx_typed.proofs.Units.{have_program}
 use Rattle.cx_typed.proofs.Whole.{well_made}
 
@@ -24,5 +25,5 @@ no_globals image program e f = record {
 pub images_of_typed_units : ImagesOfMainAreFaithful → ImagesOfTypedUnitsAreFaithful
 images_of_typed_units faithful image semantic unit statements alone are_typed no_handler none stands =
     let has = have_program semantic unit statements alone in
-    faithful image (program_of semantic unit) (body_of semantic unit statements) (well_made (program_of semantic unit) unit.assertions (body_of semantic unit statements) has.0 has.1 has.2 are_typed)
+    faithful image (program_of semantic unit) (body_of semantic unit statements) (well_made (program_of semantic unit) unit.assertions (body_of semantic unit statements) has.0 has.1 has.2 (body_typed semantic unit statements are_typed))
     (record { in_image = no_handler; in_program = has.1 }) has.0 stands (no_globals image (program_of semantic unit) none has.2)

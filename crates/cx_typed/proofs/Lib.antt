@@ -7,6 +7,7 @@ pub mod Expressions
 pub mod Checks
 pub mod Statements
 pub mod Whole
+pub mod Renaming
 pub mod Units
 pub mod Images
 mod Examples

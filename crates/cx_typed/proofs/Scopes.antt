@@ -2,7 +2,7 @@
 use Rattle.std.proofs.Common.{ℕ, List, [], ◌∷◌}
 use Rattle.std.specs.List.{All}
 use Rattle.std.proofs.lemmas.List.Elements.{All-nil, All-head, All-tail}
-use Rattle.cx_core.specs.Tree.{scalar, pointer, class}
+use Rattle.cx_core.specs.Tree.{scalar, pointer, function_pointer, class}
 use Rattle.cx_core.specs.Outcome.{Living, whole, field, State, Does, Nothing, nothing, throws, remove, end_lifetime, ◌>>=◌, ◌>>◌, current_living, set_living, current_temporaries, set_temporaries, finally}
 use Rattle.cx_core.specs.Program.{Program}
 use Rattle.cx_core.specs.Leaving.{Calls, end, end_each, scope, full_expression}
@@ -40,7 +40,8 @@ module _ (I : State → Type 0) (is : IsInvariant I) where
   module _ (program : Program) (calls : Calls) where
     end_comes : (l : Living) → IsScalar l → Comes I (With Always I) (end program calls l)
     end_comes (whole n (scalar s)) h = then_comes I Always throws (gives_comes I Always nothing (tt {0})) (λ _ _. end_lifetime_comes n)
-    end_comes (whole n pointer) h = absurd h
+    end_comes (whole n (pointer t)) h = absurd h
+    end_comes (whole n (function_pointer t)) h = absurd h
     end_comes (whole n (class c)) h = absurd h
     end_comes (field a c) h = absurd h
 

@@ -5,18 +5,19 @@ use Rattle.cx_core.specs.declared.number.IntegerType.{IntegerType}
 use Rattle.cx_core.specs.declared.number.IntegerType.TheVariants as integers
 use Rattle.cx_core.specs.declared.unit.Assertion.{Assertion}
 use Rattle.cx_core.specs.Words.{Definer}
-use Rattle.cx_core.specs.Tree.{scalar, Expr, variable, assign, putchar, Operand, value, Stmt, Stmts, empty, expression, variable_declaration, block, if_else, while_loop, contract_assert, return_value, done, next}
-use Rattle.cx_core.specs.Store.{Address, Value, number, address, null, violation}
+use Rattle.cx_core.specs.Tree.{scalar, Check, variable, assign, putchar, Operand, operand, value, Stmt, Stmts, empty, expression, variable_declaration, block, if_else, while_loop, contract_assert, return_value, done, next}
+use Rattle.cx_core.specs.Store.{Address, Value, number, address, null, function, violation}
 use Rattle.cx_core.specs.Event.{out, going}
 use Rattle.cx_core.specs.Outcome.{whole, Frame, State, Does, Nothing, nothing, ◌>>=◌, ◌>>◌, gives, throws, skip, some, current_frame, keep}
 use Rattle.cx_core.specs.Program.{Program}
 use Rattle.cx_core.specs.Leaving.{Calls, full_expression, object}
 use Rattle.cx_core.specs.Check.{truth}
-use Rattle.cx_core.specs.Operators.{integer_of, bind, number_of, stored, assignment}
+use Rattle.cx_core.specs.Operators.{integer_of, bind, converted, number_of, stored, assignment}
 use Rattle.cx_core.specs.Library.{byte_of, putchar_call}
 use Rattle.cx_core.specs.Statements.{Completion, on_to_next, break, continue, return, completed, sequence, after_turn, turns, loop, variable_of}
-use Rattle.cx_core.specs.Meaning.{object_place, expr, init, evaluated, result_stored, returned, stmt, stmts}
-use Rattle.cx_typed.specs.Typed.{Slots, with_slot, seen_behind, Gives, IsCondition, IsTypedDiscarded, IsTypedDeclaration, IsTyped, AreTyped}
+use Rattle.cx_core.specs.Calls.{result_stored, returned}
+use Rattle.cx_core.specs.Meaning.{object_place, expr, used, init, evaluated, stmt, stmts}
+use Rattle.cx_typed.specs.Typed.{Slots, with_slot, seen_behind, Gives, IsCondition, IsTypedDiscarded, IsTypedDeclaration, IsTypedWith, IsTyped, AreTyped}
 use Rattle.cx_typed.proofs.Comes.{Comes, With, Always, comes_less, either_comes, then_comes, gives_comes, ends_come, if_comes, spend_comes, append_comes}
 use Rattle.cx_typed.proofs.Objects.{Types, IsIn, IsPlace}
 use Rattle.cx_typed.proofs.States.{TypedBy, Typed, Made, typed_by, typed, some_comes, made_comes, fewer, write_comes, make_comes, bind_comes, keep_comes}
@@ -59,6 +60,7 @@ module _ (program : Program) (calls : Calls) where
     number_keeps type (number n) h = gives_keeps types slots Always n (tt {0})
     number_keeps type (address a) h = absurd h
     number_keeps type null h = absurd h
+    number_keeps type (function v) h = absurd h
     number_keeps type (violation v) h = absurd h
 
     putchar_keeps : (type : IntegerType) (m : Does Value) → Keeps types slots (IsIn type) m → Keeps types slots Always (putchar_call m)
@@ -75,10 +77,14 @@ module _ (program : Program) (calls : Calls) where
     ended_keeps m h =
         then_keeps types slots Always (full_expression_comes (TypedBy types slots) (TypedBy types slots) (typed_by types slots) (typed_by types slots) program calls Always m h) (λ _ _. gives_keeps types slots Always nothing (tt {0}))
 
-    discarded_keeps : (e : Expr) → IsTypedDiscarded slots e → Keeps types slots Always (full_expression program calls (expr program calls e) >> skip)
+    -- what is neither read nor converted
+    plain_keeps : (m : Does Value) → Keeps types slots Always m → Keeps types slots Always (converted None None m)
+    plain_keeps m h = then_keeps types slots Always (then_keeps types slots Always h (λ v _. gives_keeps types slots Always v (tt {0}))) (λ v _. gives_keeps types slots Always v (tt {0}))
+
+    discarded_keeps : (a : Operand) → IsTypedDiscarded slots a → Keeps types slots Always (full_expression program calls (used program calls a) >> skip)
     unfolding expr
-    discarded_keeps (assign (variable slot) a) h = ended_keeps _ (assignment_keeps h.0 _ _ (variable_keeps types slots program calls slot h.0 h.1) (used_keeps types slots program calls a h.0 h.2))
-    discarded_keeps (putchar a) h = ended_keeps _ (putchar_keeps integers.Int _ (used_keeps types slots program calls a integers.Int h))
+    discarded_keeps (operand None None (assign (variable slot) a)) h = ended_keeps _ (plain_keeps _ (assignment_keeps h.0 _ _ (variable_keeps types slots program calls slot h.0 h.1) (used_keeps types slots program calls a h.0 h.2)))
+    discarded_keeps (operand None None (putchar a)) h = ended_keeps _ (plain_keeps _ (putchar_keeps integers.Int _ (used_keeps types slots program calls a integers.Int h)))
     discarded_keeps other h = absurd h
 
     -- ---- `return`
@@ -95,7 +101,7 @@ module _ (program : Program) (calls : Calls) where
     result_keeps None v none h = gives_keeps types slots (IsIn integers.Int) v h
     result_keeps (Some place) v none h = absurd cc
 
-    returned_keeps : (a : Operand) → Gives slots a integers.Int → Keeps types slots (IsIn integers.Int) (returned program calls a)
+    returned_keeps : (a : Operand) → Gives slots a integers.Int → Keeps types slots (IsIn integers.Int) (returned program calls (used program calls a))
     returned_keeps a h =
         full_expression_comes (TypedBy types slots) (TypedBy types slots) (typed_by types slots) (typed_by types slots) program calls (IsIn integers.Int) _
         (then_keeps types slots (IsIn integers.Int) (used_keeps types slots program calls a integers.Int h) (λ v is. then_keeps types slots HasNoResult frame_keeps (λ frame none. result_keeps frame.result v none is)))
@@ -136,11 +142,11 @@ module _ (program : Program) (calls : Calls) where
   fewer_slots slots None t i = i
   fewer_slots slots (Some type) t i = fewer slots type t i
 
-  fewer_behind : (slots : Slots) (s : Stmt) (t : State) → Typed (seen_behind slots s) t → Typed slots t
+  fewer_behind : (slots : Slots) (s : Stmt Check) (t : State) → Typed (seen_behind slots s) t → Typed slots t
   fewer_behind slots (variable_declaration slot (scalar s) i) t h = fewer_slots slots (integer_of s) t h
   fewer_behind slots other t h = h
 
-  within_leads : (before slots : Slots) (s : Stmt) (m : Does Completion) → Leads IsLeft before (seen_behind slots s) m → Leads IsLeft before slots m
+  within_leads : (before slots : Slots) (s : Stmt Check) (m : Does Completion) → Leads IsLeft before (seen_behind slots s) m → Leads IsLeft before slots m
   within_leads before slots s m h = comes_less (Typed before) (Typed before) (With IsLeft (Typed (seen_behind slots s))) (With IsLeft (Typed slots)) m (λ _ i. i) (λ completion t i. (i.0, fewer_behind slots s t i.1)) h
 
   -- ---- loops
@@ -180,22 +186,23 @@ module _ (program : Program) (calls : Calls) where
     sequence_leads slots rest h continue is = absurd is
 
     mutual
-      unfolding stmt IsTyped
+      unfolding stmt IsTypedWith
 
-      pub stmt_leads : (s : Stmt) (slots : Slots) → IsTyped assertions slots s → Leads IsLeft slots (seen_behind slots s) (stmt program calls s)
+      pub stmt_leads : (s : Stmt Check) (slots : Slots) → IsTyped assertions slots s → Leads IsLeft slots (seen_behind slots s) (stmt program calls s)
       stmt_leads empty slots h = gives_comes (Typed slots) IsLeft on_to_next (tt {0})
-      stmt_leads (expression e) slots h = completed_leads slots slots _ (some_comes Always slots _ (λ types. discarded_keeps types slots e h))
+      stmt_leads (expression a) slots h = completed_leads slots slots _ (some_comes Always slots _ (λ types. discarded_keeps types slots a h))
       stmt_leads (variable_declaration slot (scalar s) (value a)) slots h = completed_leads slots (with_slot slots (integer_of s)) _ (declaration_leads slots s slot a (integer_of s) h)
       stmt_leads (block b) slots h = scope_comes (Typed slots) (Typed slots) (typed slots) (typed slots) program calls IsLeft _ (stmts_lead b slots h)
       stmt_leads (if_else c a b) slots h =
           then_leads slots slots slots Always (condition_leads slots c h.0)
           (λ x _. if_comes (Typed slots) (With IsLeft (Typed slots)) x _ _ (within_leads slots slots a _ (stmt_leads a slots h.2)) (within_leads slots slots b _ (stmt_leads b slots h.4)))
       stmt_leads (while_loop c body) slots h = loop_leads slots _ _ (condition_leads slots c h.0) (within_leads slots slots body _ (stmt_leads body slots h.2))
-      stmt_leads (contract_assert c) slots h = completed_leads slots slots _ (some_comes Always slots _ (λ types. check_keeps types slots program calls default Definer c h.2))
+      stmt_leads (contract_assert c predicate) slots h =
+          completed_leads slots slots _ (some_comes Always slots _ (λ types. check_keeps types slots program calls default Definer (record { of = c; predicate = predicate }) h.1))
       stmt_leads (return_value a) slots h = then_leads slots slots slots (IsIn integers.Int) (some_comes (IsIn integers.Int) slots _ (λ types. returned_keeps types slots a h)) (λ v is. gives_comes (Typed slots) IsLeft (return v) is)
       stmt_leads other slots h = absurd h
 
-      pub stmts_lead : (b : Stmts) (slots : Slots) → AreTyped assertions slots b → Leads IsLeft slots slots (stmts program calls b)
+      pub stmts_lead : (b : Stmts Check) (slots : Slots) → AreTyped assertions slots b → Leads IsLeft slots slots (stmts program calls b)
       stmts_lead done slots h = gives_comes (Typed slots) IsLeft on_to_next (tt {0})
       stmts_lead (next s rest) slots h =
           within_leads slots slots s _ (then_leads slots (seen_behind slots s) (seen_behind slots s) IsLeft (stmt_leads s slots h.0) (sequence_leads (seen_behind slots s) (stmts program calls rest) (stmts_lead rest (seen_behind slots s) h.1)))

@@ -9,11 +9,11 @@ use Rattle.cx_core.specs.Words.{Kind, Undefined}
 use Rattle.cx_core.specs.Tree.{scalar}
 use Rattle.cx_core.specs.Store.{Address, Value, address, Store, leaf_at, value_of, without, written}
 use Rattle.cx_core.specs.Event.{ended}
-use Rattle.cx_core.specs.Outcome.{Living, whole, Frame, State, Outcome, on, thrown, over, Does, either, some, defined, current_frame, set_frame, current_store, current_living, set_living, make, keep, read, write, with_store}
+use Rattle.cx_core.specs.Outcome.{Living, whole, Frame, State, Outcome, on, thrown, over, Does, either, some, defined, current_frame, set_frame, current_store, current_living, set_living, throws, add, make, keep, read, write, with_store}
 use Rattle.cx_core.specs.Operators.{denoted, bind, named}
 use Rattle.cx_core.specs.Meaning.{object_place}
 use Rattle.cx_typed.specs.Typed.{Slots}
-use Rattle.cx_typed.proofs.Comes.{Comes, ComesTo, With, Always, IsOfObjects, gives_comes, ends_come}
+use Rattle.cx_typed.proofs.Comes.{Comes, ComesTo, With, Always, IsOfObjects, then_comes, gives_comes, ends_come, spend_comes}
 use Rattle.cx_typed.proofs.Objects.{Types, IsIn, IsObjectOf, IsPlace, Denotes, IsValueOf, AreObjects, read_is, written_are, others_are, typed_at, typed_itself, denotes_more, made_are}
 
 -- an object with a number that ends without a call
@@ -140,8 +140,8 @@ fewer slots last s i =
       },
     )
 
-made : (slots : Slots) (type : IntegerType) (leaves : ℕ) (s : State) (types : Types) → TypedBy types slots s → ComesTo (Made slots type) (make leaves s)
-unfolding make
+made : (slots : Slots) (type : IntegerType) (leaves : ℕ) (s : State) (types : Types) → TypedBy types slots s → ComesTo (Made slots type) (add leaves s)
+unfolding add
 made slots type leaves s types t = (
   typed_at types s.next type,
   record {
@@ -156,7 +156,7 @@ made slots type leaves s types t = (
 )
 
 pub make_comes : (slots : Slots) (type : IntegerType) (leaves : ℕ) → Comes (Typed slots) (Made slots type) (make leaves)
-make_comes slots type leaves = record { comes = λ s i. made slots type leaves s i.0 i.1 }
+make_comes slots type leaves = then_comes (Typed slots) Always throws (spend_comes (Typed slots) (typed slots).of_objects) (λ _ _. record { comes = λ s i. made slots type leaves s i.0 i.1 })
 
 -- the variable with the next slot names the object
 module _ (slots : Slots) (type : IntegerType) (n slot : ℕ) (is_last : slot ≡ length slots) where

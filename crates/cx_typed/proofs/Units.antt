@@ -12,7 +12,7 @@ use Rattle.cx_core.specs.declared.unit.ResultKind.{ResultKind}
 use Rattle.cx_core.specs.declared.unit.ResultKind.TheVariants as results
 use Rattle.cx_core.specs.declared.statement.Statement.{Statement}
 use Rattle.cx_core.specs.Words.{Semantic}
-use Rattle.cx_core.specs.Linked.{linked}
+use Rattle.cx_core.specs.Linked.{linked_with}
 use Rattle.cx_emit.specs.Units.{IsMain}
 use Rattle.cx_typed.specs.Unit.{program_of, body_of, HasStatements}
 use Rattle.cx_typed.specs.Laws.{UnitsOfMainHaveItsProgram}
@@ -31,10 +31,10 @@ module _ (semantic : Semantic) (unit : CoreUnit) (main : Function) where
   main_with body = function_with (codes "main") results.ExitStatus [] [] body
 
   of_body : (body : Option Body) (statements : List Statement) → HasStatements body statements → HasProgram semantic (with_parts [] [] (main_with body ∷ [])) statements
-  unfolding linked
+  unfolding linked_with
   of_body (Some (bodies.Function b)) statements e =
       subst (HasProgram semantic (with_parts [] [] (main_with (Some (bodies.Function b)) ∷ []))) e
-      (record { definer = 0; noexcept = main.noexcept; is_defined = refl; not_checked = λ calls. refl }, refl, refl)
+      (record { definer = 0; noexcept = main.noexcept; is_defined = refl }, refl, refl)
   of_body other statements e = absurd e
 
   of_main : (statements : List Statement) → main.name ≡ codes "main" → main.result ≡ results.ExitStatus → main.preconditions ≡ [] → main.postconditions ≡ [] → HasStatements main.body statements

@@ -6,18 +6,19 @@ use Rattle.std.proofs.lemmas.List.Elements.{All-nil}
 use Rattle.cx_core.specs.declared.number.IntegerType.{IntegerType}
 use Rattle.cx_core.specs.declared.number.IntegerType.TheVariants as integers
 use Rattle.cx_core.specs.declared.unit.Assertion.{Assertion}
-use Rattle.cx_core.specs.Words.{Caller, Returned, Undefined, Mixed}
+use Rattle.cx_core.specs.Words.{Returned, Undefined, Mixed}
 use Rattle.cx_core.specs.Number.{in_range}
-use Rattle.cx_core.specs.Tree.{Stmts, Constant}
-use Rattle.cx_core.specs.Store.{Value, number, address, null, violation}
+use Rattle.cx_core.specs.Tree.{Check, Stmts, Constant}
+use Rattle.cx_core.specs.Store.{Value, number, address, null, function, violation}
 use Rattle.cx_core.specs.Event.{Evaluation, ended}
-use Rattle.cx_core.specs.Outcome.{nothing, Frame, State, Outcome, on, thrown, over, Does, ◌>>=◌, ◌>>◌, either, gives, throws, some, current_frame, set_frame}
+use Rattle.cx_core.specs.Outcome.{nothing, Frame, State, Outcome, on, thrown, over, Does, ◌>>=◌, ◌>>◌, gives, throws, skip, some, current_frame, set_frame}
 use Rattle.cx_core.specs.Block.{evaluations}
 use Rattle.cx_core.specs.Program as source
 use Rattle.cx_core.specs.Program.{Program, Function, Checks, exit_status}
-use Rattle.cx_core.specs.Leaving.{Calls, edge_if, within, in_unit}
+use Rattle.cx_core.specs.Leaving.{Calls, edge_if, within}
 use Rattle.cx_core.specs.Statements.{Completion, on_to_next, break, continue, return}
-use Rattle.cx_core.specs.Meaning.{meaning_of, mean, mean_within, start, main_call, globals_from, calls_within, implicit_within, active, acting, function_call, preconditions, postconditions, checked, body, value_given, unit_of}
+use Rattle.cx_core.specs.Meaning.{meaning_of, mean, mean_within, start, main_call, globals_from, calls_within, implicit_within, active, acting, function_call, preconditions, postconditions, stmts, unit_of}
+use Rattle.cx_core.specs.Calls.{body, value_given}
 use Rattle.cx_emit.specs.Units.{IsMain, no_checks}
 use Rattle.cx_typed.specs.Typed.{AreTyped}
 use Rattle.cx_typed.specs.Laws.{TypedProgramsAreWellMade}
@@ -45,10 +46,6 @@ no_slot slot type e = cc
 none_keep : Keeps Always (evaluations 0 [])
 unfolding evaluations
 none_keep = gives_keeps Always nothing (tt {0})
-
-none_in_unit_keep : (unit : ℕ) → Keeps Always (in_unit unit (evaluations 0 []))
-unfolding evaluations either gives throws current_frame set_frame
-none_in_unit_keep unit = record { comes = λ s i. (tt {0}, i) }
 
 -- ---- the frame of a call
 
@@ -95,7 +92,7 @@ edge_keeps : (P : Value → Type 0) (noexcept : Bool) (m : Does Value) → Keeps
 edge_keeps P true m h = then_comes (Typed []) P _ h (λ v p. gives_keeps P v p)
 edge_keeps P false m h = h
 
-module _ (program : Program) (assertions : List Assertion) (b : Stmts) (is : IsMain program b) (default : program.handler ≡ None) (are_typed : AreTyped assertions [] b) (calls : Calls) where
+module _ (program : Program) (assertions : List Assertion) (b : Stmts Check) (is : IsMain program b) (default : program.handler ≡ None) (are_typed : AreTyped assertions [] b) (calls : Calls) where
   abbrev main : Function
   main = record { definer = is.definer; noexcept = is.noexcept; result = exit_status; checks = no_checks; body = source.function b }
 
@@ -105,18 +102,14 @@ module _ (program : Program) (assertions : List Assertion) (b : Stmts) (is : IsM
   given_keeps break h = absurd h
   given_keeps continue h = absurd h
 
-  body_keeps : Keeps (IsIn integers.Int) (body program calls exit_status b)
+  body_keeps : Keeps (IsIn integers.Int) (body program calls exit_status (stmts program calls b))
   body_keeps = then_keeps IsLeft (scope_comes (Typed []) (Typed []) (typed []) (typed []) program calls IsLeft _ (stmts_lead program calls default assertions b [] are_typed)) given_keeps
 
   preconditions_keep : Keeps Always (preconditions program calls main (main_call program))
-  preconditions_keep =
-      subst (λ (c : Checks). Keeps Always (in_unit 0 (checked program calls Caller c.preconditions) >> evaluations 0 [])) (sym (is.not_checked calls))
-      (then_keeps Always (none_in_unit_keep 0) (λ _ _. none_keep))
+  preconditions_keep = then_keeps Always (gives_keeps Always nothing (tt {0})) (λ _ _. none_keep)
 
   postconditions_keep : Keeps Always (postconditions program calls main (main_call program))
-  postconditions_keep =
-      subst (λ (c : Checks). Keeps Always (evaluations 0 [] >> in_unit 0 (checked program calls Caller c.postconditions))) (sym (is.not_checked calls))
-      (then_keeps Always none_keep (λ _ _. none_in_unit_keep 0))
+  postconditions_keep = then_keeps Always none_keep (λ _ _. gives_keeps Always nothing (tt {0}))
 
   call_keeps : Keeps (IsIn integers.Int) (function_call program calls main (main_call program) b)
   call_keeps =
@@ -132,14 +125,14 @@ module _ (program : Program) (assertions : List Assertion) (b : Stmts) (is : IsM
   main_found = subst (λ (o : Option Function). Keeps IsTheMain (some o)) (sym is.is_defined) (gives_comes (Typed []) IsTheMain main refl)
 
   abbrev in_frame : Function → Does Value
-  in_frame f = within (record { unit = unit_of program calls f (main_call program); variables = []; result = None }) (acting program calls f.body f (main_call program))
+  in_frame f = skip >> within (record { unit = unit_of program calls f (main_call program); variables = []; result = None }) (acting program calls f.body f (main_call program))
 
   main_comes : Comes (Typed []) (With (IsIn integers.Int) Anywhere) (active program calls (main_call program))
   main_comes =
       then_comes (Typed []) Always throws (spend_comes (Typed []) (typed []).of_objects)
       (λ _ _. then_comes (Typed []) IsTheMain throws main_found
       (λ f found. subst (λ (g : Function). Comes (Typed []) (With (IsIn integers.Int) Anywhere) (in_frame g)) (sym found)
-      (within_comes (IsIn integers.Int) _ _ refl (edge_keeps (IsIn integers.Int) is.noexcept _ call_keeps))))
+      (then_comes (Typed []) Always throws (gives_keeps Always nothing (tt {0})) (λ _ _. within_comes (IsIn integers.Int) _ _ refl (edge_keeps (IsIn integers.Int) is.noexcept _ call_keeps)))))
 
 -- ---- what the call of `main` comes to
 
@@ -147,6 +140,7 @@ never_mixed : (o : Outcome Value) → ComesTo (With (IsIn integers.Int) Anywhere
 never_mixed (on (number n) t) h e = absurd cc
 never_mixed (on (address a) t) h e = absurd h.0
 never_mixed (on null t) h e = absurd h.0
+never_mixed (on (function v) t) h e = absurd h.0
 never_mixed (on (violation v) t) h e = absurd h.0
 never_mixed (thrown x t) h e = absurd h
 never_mixed (over answer trace) h e = subst IsEnd e h
@@ -158,6 +152,7 @@ returns_int : (o : Outcome Value) (n : ℤ) → ComesTo (With (IsIn integers.Int
 returns_int (on (number m) t) n h e = subst (λ x. in_range integers.Int x ≡ true) (the_same m n e) h.0
 returns_int (on (address a) t) n h e = absurd h.0
 returns_int (on null t) n h e = absurd h.0
+returns_int (on (function v) t) n h e = absurd h.0
 returns_int (on (violation v) t) n h e = absurd h.0
 returns_int (thrown x t) n h e = absurd h
 returns_int (over answer trace) n h e = absurd (subst IsEnd e h)

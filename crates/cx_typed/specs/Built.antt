@@ -4,10 +4,10 @@ use Rattle.std.specs.List.{All}
 use Rattle.cx_core.specs.declared.unit.CoreUnit.{CoreUnit}
 use Rattle.cx_core.specs.declared.unit.Assertion.{Assertion}
 use Rattle.cx_core.specs.declared.statement.Statement.{Statement}
-use Rattle.cx_core.specs.Words.{Semantic}
-use Rattle.cx_typed.specs.Typed.{AreTyped}
+use Rattle.cx_core.specs.View.{stmts_of}
+use Rattle.cx_typed.specs.Typed.{AreTypedIn}
 use Rattle.cx_typed.specs.Weight.{stmts_weight}
-use Rattle.cx_typed.specs.Unit.{body_of, IsMainAlone, AreNumbered}
+use Rattle.cx_typed.specs.Unit.{IsMainAlone, AreNumbered}
 
 -- the most expressions and statements of a unit, which also bounds the depth of its operands
 abbrev pub most_weight : ℕ
@@ -23,8 +23,8 @@ longest_name = 1024
 -- a unit of `main` alone with typed statements, within the limits
 pub record IsBuilt (unit : CoreUnit) (statements : List Statement) : Type 0 where
   pub alone : IsMainAlone unit statements
-  pub typed : (semantic : Semantic) → AreTyped unit.assertions [] (body_of semantic unit statements)
-  pub light : (semantic : Semantic) → stmts_weight (body_of semantic unit statements) ≤ most_weight
+  pub typed : AreTypedIn unit.assertions [] (stmts_of statements)
+  pub light : stmts_weight (stmts_of statements) ≤ most_weight
   pub numbered : AreNumbered 1 unit.assertions
   pub few_assertions : length unit.assertions ≤ most_weight
   pub short_comments : sum_by (λ (a : Assertion). length a.comment) unit.assertions ≤ most_comments

@@ -1,5 +1,5 @@
 -- Which statements of the typed program are built so far, and of which types their expressions are: numbers of `bool`, `char` and `int` are computed after [expr.unary.op], [expr.mul] to [expr.or], [conv.integral] and [conv.bool] of the C++ draft; that a variable's slot is the number of variables that are visible before it is this project's own.
-use Rattle.std.specs.Prelude.{◌≡◌, ◌⊎◌, ℕ, ◌≤◌, pos, true, false, List, [], ◌∷◌, ◌++◌, Option, Some, None, length, slice_get}
+use Rattle.std.specs.Prelude.{◌≡◌, ◌⊎◌, ℕ, ◌<◌, ◌≤◌, pos, true, false, List, [], ◌∷◌, ◌++◌, Option, Some, None, length, slice_get}
 use Rattle.cx_core.specs.declared.number.IntegerType.{IntegerType}
 use Rattle.cx_core.specs.declared.number.IntegerType.TheVariants as types
 use Rattle.cx_core.specs.declared.number.BinaryOperator.{BinaryOperator}
@@ -9,7 +9,7 @@ use Rattle.cx_core.specs.declared.number.UnaryOperator.TheVariants as unary_oper
 use Rattle.cx_core.specs.Number.{in_range}
 use Rattle.cx_core.specs.Operators.{integer_of}
 use Rattle.cx_core.specs.declared.unit.Assertion.{Assertion}
-use Rattle.cx_core.specs.Linked.{assertion_of}
+use Rattle.cx_core.specs.View.{assertion_of}
 use Rattle.cx_core.specs.Tree as tree
 use Rattle.cx_core.specs.Tree.{ObjectType, scalar, number, Expr, literal, variable, unary, binary, assign, putchar, Operand, operand, value, Check, Stmt, Stmts, empty, expression, variable_declaration, block, if_else, while_loop, contract_assert, return_value, done, next}
 use Rattle.cx_emit.specs.Statements.{declares}
@@ -76,7 +76,7 @@ with_slot slots None = slots
 with_slot slots (Some type) = slots ++ type ∷ []
 
 -- what the statements behind it see
-abbrev pub seen_behind : Slots → Stmt → Slots
+abbrev pub seen_behind : {A : Type 0} → Slots → Stmt A → Slots
 seen_behind slots (variable_declaration slot (scalar s) init) = with_slot slots (integer_of s)
 seen_behind slots other = slots
 
@@ -85,13 +85,17 @@ abbrev pub IsListed : List Assertion → tree.Assertion → Type 0
 IsListed assertions a = (i : ℕ) × (e : Assertion) × (slice_get assertions i ≡ Some e) × (a ≡ assertion_of e)
 
 -- an assertion of the unit that is evaluated once or not at all
-abbrev pub IsTypedCheck : List Assertion → Slots → Check → Type 0
-IsTypedCheck assertions slots c = ((c.times ≡ 0) ⊎ (c.times ≡ 1)) × IsListed assertions c.assertion × IsCondition slots c.predicate
+abbrev pub IsListedCheck : List Assertion → Check → Type 0
+IsListedCheck assertions c = ((c.times ≡ 0) ⊎ (c.times ≡ 1)) × IsListed assertions c.assertion
+
+-- an index in the unit's table
+abbrev pub IsIndex : List Assertion → ℕ → Type 0
+IsIndex assertions i = i < length assertions
 
 -- a variable is assigned to, or a byte is written; the value is discarded
-abbrev pub IsTypedDiscarded : Slots → Expr → Type 0
-IsTypedDiscarded slots (assign (variable slot) a) = (type : IntegerType) × (slice_get slots slot ≡ Some type) × Gives slots a type
-IsTypedDiscarded slots (putchar a) = Gives slots a types.Int
+abbrev pub IsTypedDiscarded : Slots → Operand → Type 0
+IsTypedDiscarded slots (operand None None (assign (variable slot) a)) = (type : IntegerType) × (slice_get slots slot ≡ Some type) × Gives slots a type
+IsTypedDiscarded slots (operand None None (putchar a)) = Gives slots a types.Int
 IsTypedDiscarded slots other = ⊥
 
 -- a variable is visible in its own initialiser [basic.scope.pdecl]
@@ -99,21 +103,32 @@ abbrev pub IsTypedDeclaration : Slots → ℕ → Option IntegerType → Operand
 IsTypedDeclaration slots slot None a = ⊥
 IsTypedDeclaration slots slot (Some type) a = (slot ≡ length slots) × Gives (slots ++ type ∷ []) a type
 
--- `assertions` are those of the unit
-module _ (assertions : List Assertion) where
+-- what stands for an assertion is one of these
+module _ {A : Type 0} (IsOne : A → Type 0) where
   unfoldable mutual
-    pub IsTyped : Slots → Stmt → Type 0
-    IsTyped slots empty = Unit {0}
-    IsTyped slots (expression e) = IsTypedDiscarded slots e
-    IsTyped slots (variable_declaration slot (scalar s) (value a)) = IsTypedDeclaration slots slot (integer_of s) a
-    IsTyped slots (block b) = AreTyped slots b
-    IsTyped slots (if_else c a b) = IsCondition slots c × (declares a ≡ false) × IsTyped slots a × (declares b ≡ false) × IsTyped slots b
-    IsTyped slots (while_loop c body) = IsCondition slots c × (declares body ≡ false) × IsTyped slots body
-    IsTyped slots (contract_assert c) = IsTypedCheck assertions slots c
-    IsTyped slots (return_value a) = Gives slots a types.Int
-    IsTyped slots other = ⊥
+    pub IsTypedWith : Slots → Stmt A → Type 0
+    IsTypedWith slots empty = Unit {0}
+    IsTypedWith slots (expression a) = IsTypedDiscarded slots a
+    IsTypedWith slots (variable_declaration slot (scalar s) (value a)) = IsTypedDeclaration slots slot (integer_of s) a
+    IsTypedWith slots (block b) = AreTypedWith slots b
+    IsTypedWith slots (if_else c a b) = IsCondition slots c × (declares a ≡ false) × IsTypedWith slots a × (declares b ≡ false) × IsTypedWith slots b
+    IsTypedWith slots (while_loop c body) = IsCondition slots c × (declares body ≡ false) × IsTypedWith slots body
+    IsTypedWith slots (contract_assert c predicate) = IsOne c × IsCondition slots predicate
+    IsTypedWith slots (return_value a) = Gives slots a types.Int
+    IsTypedWith slots other = ⊥
 
     -- the statements of a block, or of a body
-    pub AreTyped : Slots → Stmts → Type 0
-    AreTyped slots done = Unit {0}
-    AreTyped slots (next s rest) = IsTyped slots s × AreTyped (seen_behind slots s) rest
+    pub AreTypedWith : Slots → Stmts A → Type 0
+    AreTypedWith slots done = Unit {0}
+    AreTypedWith slots (next s rest) = IsTypedWith slots s × AreTypedWith (seen_behind slots s) rest
+
+-- statements of a program, where checks of these assertions are evaluated once or not at all
+abbrev pub IsTyped : List Assertion → Slots → Stmt Check → Type 0
+IsTyped assertions = IsTypedWith (IsListedCheck assertions)
+
+abbrev pub AreTyped : List Assertion → Slots → Stmts Check → Type 0
+AreTyped assertions = AreTypedWith (IsListedCheck assertions)
+
+-- statements of a unit with these assertions
+abbrev pub AreTypedIn : List Assertion → Slots → Stmts ℕ → Type 0
+AreTypedIn assertions = AreTypedWith (IsIndex assertions)

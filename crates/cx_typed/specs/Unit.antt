@@ -10,25 +10,30 @@ use Rattle.cx_core.specs.declared.unit.Body.{Body}
 use Rattle.cx_core.specs.declared.unit.Body.TheVariants as bodies
 use Rattle.cx_core.specs.declared.unit.ResultKind.TheVariants as results
 use Rattle.cx_core.specs.declared.statement.Statement.{Statement}
-use Rattle.cx_core.specs.Words.{Semantic}
-use Rattle.cx_core.specs.Tree.{Stmts}
+use Rattle.cx_core.specs.Words.{Semantic, Definer}
+use Rattle.cx_core.specs.Tree.{Check, Stmts}
 use Rattle.cx_core.specs.Program.{Program}
-use Rattle.cx_core.specs.Numbered.{Numbers, stmts_of}
-use Rattle.cx_core.specs.Linked.{Planned, linked, numbers_of}
+use Rattle.cx_core.specs.View.{unit_of, stmts_of}
+use Rattle.cx_core.specs.Renamed.{Names, renamed_stmts}
+use Rattle.cx_core.specs.Numbers.{Planned, block_numbers}
+use Rattle.cx_core.specs.Linked.{linked, names_of, check_at}
 
 -- each assertion of the unit has the one semantic, the definer evaluates it, and once where it is evaluated
 abbrev pub planned : Semantic → CoreUnit → Planned
-planned semantic unit = record { unit = unit; choice = record { semantic = semantic; calls = calls.Nothing; repeat = 0 }; semantic = λ name. semantic }
+planned semantic unit = record { unit = unit_of unit; choice = record { semantic = semantic; calls = calls.Nothing; repeat = 0 }; semantic = λ name. semantic }
 
 abbrev pub program_of : Semantic → CoreUnit → Program
 program_of semantic unit = linked (planned semantic unit ∷ [])
 
--- what the trees of the unit stand for in that program
-abbrev pub unit_numbers : Semantic → CoreUnit → Numbers
-unit_numbers semantic unit = numbers_of (planned semantic unit ∷ []) (planned semantic unit)
+-- the names of the unit's trees in that program, and what stands there for its assertions
+abbrev pub unit_names : Semantic → CoreUnit → Names
+unit_names semantic unit = names_of (planned semantic unit ∷ []) (planned semantic unit)
 
-abbrev pub body_of : Semantic → CoreUnit → List Statement → Stmts
-body_of semantic unit statements = stmts_of (unit_numbers semantic unit) statements
+abbrev pub unit_check : Semantic → CoreUnit → ℕ → Check
+unit_check semantic unit a = check_at (planned semantic unit) (block_numbers (planned semantic unit ∷ []) 0 Definer) a
+
+abbrev pub body_of : Semantic → CoreUnit → List Statement → Stmts Check
+body_of semantic unit statements = renamed_stmts (unit_names semantic unit) (unit_check semantic unit) (stmts_of statements)
 
 -- a function's definition has these statements
 abbrev pub HasStatements : Option Body → List Statement → Type 0

@@ -18,16 +18,16 @@ init_weight (value a) = operand_weight a
 init_weight other = 1
 
 unfoldable mutual
-  pub stmt_weight : Stmt → ℕ
-  stmt_weight (expression e) = suc (expr_weight e)
+  pub stmt_weight : {A : Type 0} → Stmt A → ℕ
+  stmt_weight (expression a) = suc (operand_weight a)
   stmt_weight (variable_declaration slot type i) = suc (init_weight i)
   stmt_weight (block b) = suc (stmts_weight b)
   stmt_weight (if_else c a b) = suc (operand_weight c + (stmt_weight a + stmt_weight b))
   stmt_weight (while_loop c body) = suc (operand_weight c + stmt_weight body)
-  stmt_weight (contract_assert c) = suc (operand_weight c.predicate)
+  stmt_weight (contract_assert c predicate) = suc (operand_weight predicate)
   stmt_weight (return_value a) = suc (operand_weight a)
   stmt_weight other = 1
 
-  pub stmts_weight : Stmts → ℕ
+  pub stmts_weight : {A : Type 0} → Stmts A → ℕ
   stmts_weight done = 0
   stmts_weight (next s rest) = stmt_weight s + stmts_weight rest

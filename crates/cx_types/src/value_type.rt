@@ -28,6 +28,8 @@ pub enum Base {
     Scalar(Scalar),
     /// An index in the unit's table of classes.
     Class(u32),
+    /// A pointer to a function, by the index of the function's type in the unit's table of them.
+    Function(u32),
     /// `std::contracts::contract_violation` [support.contract.violation].
     Violation,
     Void,

@@ -4,8 +4,6 @@
 mod fault;
 mod paint;
 mod table;
-#[cfg(test)]
-mod tests;
 
 pub use fault::BuildFault;
 pub use table::{Table, build, find};

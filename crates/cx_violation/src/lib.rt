@@ -5,8 +5,6 @@ mod access;
 mod default_line;
 mod make;
 mod names;
-#[cfg(test)]
-mod tests;
 
 pub use access::{comment, kind, mode, place, semantic};
 pub use default_line::line;

@@ -1,17 +1,17 @@
 -- A program of three units with a class, mixed semantics, Caller's checks of both lists and a handler that throws.
-use Rattle.std.specs.Prelude.{refl, ℕ, List, [], ◌∷◌, ◌++◌, map, Some, None, pos, codes}
+use Rattle.std.specs.Prelude.{refl, ℕ, true, List, [], ◌∷◌, ◌++◌, map, Some, None, pos, codes}
 use Rattle.cx_core.specs.declared.number.IntegerType.TheVariants as types
 use Rattle.cx_core.specs.declared.number.BinaryOperator.TheVariants.{Add, Subtract, Divide, Remainder, GreaterEqual, Greater, LessEqual, Equal}
 use Rattle.cx_core.specs.declared.number.Query.TheVariants as queries
 use Rattle.cx_core.specs.Words.{AssertionKind, Pre, Post, Assert, Party, Definer, Caller, Semantic, Observe, Enforce, Holds, False, PredicateFalse, Returned}
-use Rattle.cx_core.specs.Tree.{class, variable, result_name, exception_object, member, call, putchar, puts, puts_comment, query, Operand, compound_assign, assign, value, construct, no_more, by_reference, by_value, object, Assertion, Stmt, empty, expression, variable_declaration, if_else, return_value, contract_assert, throw, try, none, catch}
+use Rattle.cx_core.specs.Tree.{class, variable, result_name, exception_object, member, call, putchar, puts, puts_comment, query, Operand, compound_assign, assign, value, construct, no_more, by_reference, by_value, object, Assertion, Stmt, empty, variable_declaration, if_else, return_value, throw, try, none, catch, Check}
 use Rattle.cx_core.specs.Program.{Checks, Function, Program, void, scalar_value, scalar_object}
 use Rattle.cx_core.specs.Event.{Event, out, begin, verdict, handler, destroyed}
 use Rattle.cx_core.specs.Event as event
 use Rattle.cx_core.specs.Check.{violation_of}
 use Rattle.cx_core.specs.Meaning.{running}
 use Rattle.cx_core.specs.Runs.{IsRun}
-use Rattle.cx_core.proofs.rows.Writing.{int, lit, as_is, read_int, read_variable, ints, int_arg, own, say, list, assertion_in, check, evaluation_of, no_checks, pre, main_of, function_of, checked_function, handler_of, constructor_of, destructor_of, int_field, class_of_one, program_of}
+use Rattle.cx_core.proofs.rows.Writing.{int, lit, as_is, read_int, read_variable, ints, int_arg, own, say, list, assertion_in, check, evaluation_of, no_checks, pre, main_of, function_of, checked_function, handler_of, constructor_of, destructor_of, int_field, class_of_one, program_of, does, asserts}
 
 -- ---- the class
 
@@ -83,47 +83,47 @@ held = read_int (own 0)
 abbrev pub account_functions : List Function
 account_functions =
     in_acct (record (constructor_of (int_field 0 parameter ∷ []) []) { checks = of_constructor Enforce })
-    ∷ in_acct (destructor_of 0 (expression (puts (codes "closed")) ∷ []))
+    ∷ in_acct (destructor_of 0 (does (puts (codes "closed")) ∷ []))
     ∷ in_acct (function_of scalar_value (return_value held ∷ []))
-    ∷ in_acct (checked_function void (of_deposit Enforce) (expression (assign (own 0) (as_is (ints Add held parameter))) ∷ []))
+    ∷ in_acct (checked_function void (of_deposit Enforce) (does (assign (own 0) (as_is (ints Add held parameter))) ∷ []))
     ∷ in_acct (checked_function scalar_object (of_withdraw Enforce) (
-    expression (compound_assign Subtract types.Int types.Int (own 0) parameter)
-    ∷ contract_assert (check not_negative Enforce 1 (at_least held (lit 0)))
+    does (compound_assign Subtract types.Int types.Int (own 0) parameter)
+    ∷ asserts (check not_negative Enforce 1 (at_least held (lit 0)))
     ∷ return_value (lit 1) ∷ []))
     ∷ []
 
 -- void number(int n) { if (n >= 10) number(n / 10); putchar('0' + n % 10); }
 abbrev pub writes_number : Function
 writes_number = function_of void (
-    if_else (at_least (read_variable 0) (lit 10)) (expression (call 1 (by_value int (value (as_is (ints Divide (read_variable 0) (lit 10)))) no_more))) empty
-    ∷ expression (putchar (as_is (ints Add (lit 48) (as_is (ints Remainder (read_variable 0) (lit 10))))))
+    if_else (at_least (read_variable 0) (lit 10)) (does (call 1 (by_value int (value (as_is (ints Divide (read_variable 0) (lit 10)))) no_more))) empty
+    ∷ does (putchar (as_is (ints Add (lit 48) (as_is (ints Remainder (read_variable 0) (lit 10))))))
     ∷ [])
 
 -- void show(const Account& a) { number(a.balance()); putchar('\n'); }
 abbrev pub shows : Function
 shows = function_of void (
-    expression (call 1 (by_value int (value (as_is (call 5 (by_reference (member 0 (variable 0)) no_more)))) no_more))
+    does (call 1 (by_value int (value (as_is (call 5 (by_reference (member 0 (variable 0)) no_more)))) no_more))
     ∷ say 10 ∷ [])
 
 -- a member call on the variable `a`
-abbrev pub on_a : ℕ → ℕ → Stmt
-on_a f n = expression (call f (by_reference (member 0 (variable 0)) (int_arg n no_more)))
+abbrev pub on_a : ℕ → ℕ → Stmt Check
+on_a f n = does (call f (by_reference (member 0 (variable 0)) (int_arg n no_more)))
 
 abbrev pub main_function : Function
 main_function = main_of (
     try (list (
     variable_declaration 0 (class 0) (construct 3 (int_arg 100 no_more))
     ∷ on_a 6 50
-    ∷ expression (call 2 (by_reference (variable 0) no_more))
+    ∷ does (call 2 (by_reference (variable 0) no_more))
     ∷ on_a 7 500
-    ∷ expression (puts (codes "never")) ∷ []))
-    (catch int (object 0 (value (read_int exception_object))) (list (return_value (read_variable 0) ∷ [])) none)
+    ∷ does (puts (codes "never")) ∷ []))
+    (catch int (object 0 true (value (read_int exception_object))) (list (return_value (read_variable 0) ∷ [])) none)
     ∷ return_value (lit 0) ∷ [])
 
 -- puts(v.comment()); if (v.kind() == std::contracts::assertion_kind::pre) throw 2;
 abbrev pub log_handler : Function
 log_handler = record (handler_of (
-    expression (puts_comment (variable 0))
+    does (puts_comment (variable 0))
     ∷ if_else (as_is (ints Equal (as_is (query queries.Kind (variable 0))) (lit 1))) (throw int (value (lit 2))) empty ∷ [])) { definer = 2 }
 
 -- main.cpp observes as Caller of both lists, acct.cpp enforces as Definer

@@ -2,20 +2,20 @@
 use Rattle.std.specs.Prelude.{◌≡◌, refl, ℕ, List, [], ◌∷◌, pos, codes}
 use Rattle.cx_core.specs.declared.number.BinaryOperator.TheVariants.{Less, Add}
 use Rattle.cx_core.specs.Words.{Assert, Definer, Semantic, Ignore, Observe, Enforce, QuickEnforce, Holds, False, PredicateFalse, Returned, ContractTerminated, Undefined, Overflow}
-use Rattle.cx_core.specs.Tree.{Assertion, contract_assert, return_value, block, done, while_loop, variable}
+use Rattle.cx_core.specs.Tree.{Assertion, return_value, block, done, while_loop, variable}
 use Rattle.cx_core.specs.Program.{Program}
 use Rattle.cx_core.specs.Event.{Event, out, begin, verdict, handler, ended, going, waiting, not_a_run}
 use Rattle.cx_core.specs.Check.{violation_of}
 use Rattle.cx_core.specs.Meaning.{mean, running}
 use Rattle.cx_core.specs.Runs.{IsRun}
-use Rattle.cx_core.proofs.rows.Writing.{lit, as_is, read_int, ints, int_variable, set_int, say, assertion, check, evaluation_of, main_of, program_of}
+use Rattle.cx_core.proofs.rows.Writing.{lit, as_is, read_int, ints, int_variable, set_int, say, assertion, check, evaluation_of, main_of, program_of, asserts}
 
 -- int main(){ contract_assert(1 < 2); return 7; }
 abbrev pub holding : Assertion
 holding = assertion Assert (codes "main#assert1") 1 13 (codes "1 < 2")
 
 abbrev pub holds_and_returns : Program
-holds_and_returns = program_of [] (main_of (contract_assert (check holding Enforce 1 (as_is (ints Less (lit 1) (lit 2)))) ∷ return_value (lit 7) ∷ []) ∷ [])
+holds_and_returns = program_of [] (main_of (asserts (check holding Enforce 1 (as_is (ints Less (lit 1) (lit 2)))) ∷ return_value (lit 7) ∷ []) ∷ [])
 
 abbrev pub its_journal : List Event
 its_journal = begin (evaluation_of holding Definer Enforce) ∷ verdict Holds ∷ []
@@ -50,7 +50,7 @@ abbrev pub failing : Assertion
 failing = assertion Assert (codes "main#assert1") 1 13 (codes "false")
 
 abbrev pub fails_under : Semantic → (times : ℕ) → Program
-fails_under s n = program_of [] (main_of (contract_assert (check failing s n (lit 0)) ∷ return_value (lit 3) ∷ []) ∷ [])
+fails_under s n = program_of [] (main_of (asserts (check failing s n (lit 0)) ∷ return_value (lit 3) ∷ []) ∷ [])
 
 pub ignored_assertion_is_not_evaluated : IsRun (fails_under Ignore 0) [] [] (Returned (pos 3)) 9
 unfolding running

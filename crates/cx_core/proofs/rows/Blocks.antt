@@ -9,7 +9,7 @@ use Rattle.cx_core.specs.Event.{Event, begin, verdict, handler, Evaluation, wait
 use Rattle.cx_core.specs.Check.{violation_of}
 use Rattle.cx_core.specs.Meaning.{mean, running}
 use Rattle.cx_core.specs.Runs.{IsRun}
-use Rattle.cx_core.proofs.rows.Writing.{lit, as_is, read_int, read_pointer, read_variable, ints, int_variable, int_arg, assertion, assertion_in, check, evaluation_of, pre, post, main_of, checked_function, program_of, calling}
+use Rattle.cx_core.proofs.rows.Writing.{int, lit, as_is, read_int, read_pointer, read_variable, ints, int_variable, int_arg, assertion, assertion_in, check, evaluation_of, pre, post, main_of, checked_function, program_of, calling}
 
 abbrev pub held : Evaluation → List Event
 held e = begin e ∷ verdict Holds ∷ []
@@ -20,7 +20,7 @@ steps = assertion Pre (codes "f#pre1") 1 15 (codes "++ * p > 0")
 
 abbrev pub steps_three_times : Program
 steps_three_times = program_of [] (
-    main_of (int_variable 0 (lit 0) ∷ return_value (as_is (call 1 (by_value pointer (value (as_is (variable 0))) no_more))) ∷ [])
+    main_of (int_variable 0 (lit 0) ∷ return_value (as_is (call 1 (by_value (pointer int) (value (as_is (variable 0))) no_more))) ∷ [])
     ∷ checked_function scalar_value
     (pre (check steps Enforce 3 (as_is (ints Greater (read_int (prefix_step Add types.Int (indirection (read_pointer (variable 0))))) (lit 0))) ∷ []))
     (return_value (read_int (indirection (read_pointer (variable 0)))) ∷ [])

@@ -2,12 +2,12 @@
 use Rattle.std.specs.Prelude.{refl, List, [], ◌∷◌, Some, None, pos, codes}
 use Rattle.cx_core.specs.declared.number.BinaryOperator.TheVariants.{Add}
 use Rattle.cx_core.specs.Words.{Post, Definer, Enforce, Holds, Returned, Undefined, Unset, Dead}
-use Rattle.cx_core.specs.Tree.{class, pointer, variable, indirection, member, call, temporary, putchar, value, construct, zero_first, result_of, no_more, by_reference, by_value, Assertion, Stmt, expression, variable_declaration, return_value, return_object}
+use Rattle.cx_core.specs.Tree.{class, pointer, variable, indirection, member, call, temporary, putchar, value, construct, zero_first, result_of, no_more, by_reference, by_value, Assertion, Stmt, variable_declaration, return_value, return_object, Check}
 use Rattle.cx_core.specs.Program.{Program, Class, number_leaf, pointer_leaf, scalar_value, class_object}
 use Rattle.cx_core.specs.Event.{out, begin, verdict, destroyed}
 use Rattle.cx_core.specs.Meaning.{running}
 use Rattle.cx_core.specs.Runs.{IsRun}
-use Rattle.cx_core.proofs.rows.Writing.{int, char, lit, as_is, read_int, read_char, read_variable, ints, int_arg, say, assertion, check, evaluation_of, post, main_of, function_of, checked_function, constructor_of, destructor_of, constructs, copies, destroys, int_field, class_of_one, empty_class, program_of}
+use Rattle.cx_core.proofs.rows.Writing.{int, char, lit, as_is, read_int, read_char, read_variable, ints, int_arg, say, assertion, check, evaluation_of, post, main_of, function_of, checked_function, constructor_of, destructor_of, constructs, copies, destroys, int_field, class_of_one, empty_class, program_of, does}
 
 -- struct T { int v; T(int n) : v(n) {} T(const T& o) : v(o.v + 1) {} };
 -- T g() { T a(1); return a; } int main() { T b = g(); T c = b; return c.v; }
@@ -30,7 +30,7 @@ unfolding running
 returned_variable_is_copied_once = refl
 
 -- struct S { int a; }; with int main(){ return S().a; } and int main(){ S s; return s.a; }
-abbrev pub of_plain_class : List Stmt → Program
+abbrev pub of_plain_class : List (Stmt Check) → Program
 of_plain_class body = program_of (class_of_one (codes "S") int (Some 1) 3 2 ∷ []) (main_of body ∷ constructs 0 ∷ destroys 0 ∷ copies 0 ∷ [])
 
 pub value_initialised_temporary_is_zeroed :
@@ -71,7 +71,7 @@ speaks = program_of (class_of_one (codes "T") int None 10 2 ∷ empty_class (cod
     ∷ constructs 2
     ∷ copies 2
     ∷ destructor_of 2 (say 112 ∷ [])
-    ∷ function_of scalar_value (expression (putchar (read_char (variable 0))) ∷ return_value (lit 1) ∷ [])
+    ∷ function_of scalar_value (does (putchar (read_char (variable 0))) ∷ return_value (lit 1) ∷ [])
     ∷ checked_function (class_object 0) (post (check says Enforce 1 (as_is (call 8 (by_value char (value (lit 33)) no_more))) ∷ []))
     (variable_declaration 1 (class 1) (construct 3 no_more) ∷ return_object (construct 1 (int_arg 1 no_more)) ∷ [])
     ∷ [])
@@ -100,7 +100,7 @@ nested = record {
 abbrev pub inner : Class
 inner = record {
   name = codes "A";
-  fields = record { leaf = 0; type = int } ∷ record { leaf = 1; type = pointer } ∷ [];
+  fields = record { leaf = 0; type = int } ∷ record { leaf = 1; type = pointer int } ∷ [];
   leaves = number_leaf ∷ pointer_leaf ∷ [];
   objects = 1;
   default_constructor = Some 1;
@@ -123,7 +123,7 @@ class_fields_are_zeroed_copied_and_destroyed = refl
 -- S* lost() { S s; return &s; } int main(){ lost()->a; return 0; }
 pub member_of_an_object_that_has_ended :
     IsRun (program_of (class_of_one (codes "S") int (Some 1) 3 2 ∷ []) (
-    main_of (expression (member 0 (indirection (as_is (call 4 no_more)))) ∷ return_value (lit 0) ∷ [])
+    main_of (does (member 0 (indirection (as_is (call 4 no_more)))) ∷ return_value (lit 0) ∷ [])
     ∷ constructs 0 ∷ destroys 0 ∷ copies 0
     ∷ function_of scalar_value (variable_declaration 0 (class 0) (construct 1 no_more) ∷ return_value (as_is (variable 0)) ∷ [])
     ∷ [])) [] (destroyed (codes "S") 1 0 ∷ []) (Undefined Dead) 99

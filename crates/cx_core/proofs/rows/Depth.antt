@@ -2,11 +2,11 @@
 use Rattle.std.specs.Prelude.{◌≡◌, refl, ℕ, ◌+◌, ◌*◌, List, [], ◌∷◌, Some, length, replicate, pos, codes}
 use Rattle.cx_core.specs.declared.number.BinaryOperator.TheVariants.{Subtract, Equal}
 use Rattle.cx_core.specs.Words.{Assert, Definer, Enforce, Returned, TooDeep}
-use Rattle.cx_core.specs.Tree.{call, value, no_more, by_value, Assertion, contract_assert, empty, if_else, return_value}
+use Rattle.cx_core.specs.Tree.{call, value, no_more, by_value, Assertion, empty, if_else, return_value}
 use Rattle.cx_core.specs.Program.{Program, scalar_value}
 use Rattle.cx_core.specs.Event.{Answer, ended}
 use Rattle.cx_core.specs.Meaning.{Meaning, mean, running}
-use Rattle.cx_core.proofs.rows.Writing.{int, lit, as_is, read_variable, ints, int_arg, assertion, check, evaluation_of, main_of, function_of, handler_of, program_of}
+use Rattle.cx_core.proofs.rows.Writing.{int, lit, as_is, read_variable, ints, int_arg, assertion, check, evaluation_of, main_of, function_of, handler_of, program_of, asserts}
 
 -- int f(int n) { if (n == 0) return 0; return f(n - 1); } int main(){ return f(N); }
 abbrev pub calls_itself : ℕ → Program
@@ -31,8 +31,8 @@ failing name = assertion Assert name 1 13 (codes "false")
 
 abbrev pub handler_fails : Program
 handler_fails = record (program_of [] (
-    main_of (contract_assert (check (failing (codes "main#assert1")) Enforce 1 (lit 0)) ∷ return_value (lit 0) ∷ [])
-    ∷ handler_of (contract_assert (check (failing (codes "handle_contract_violation#assert1")) Enforce 1 (lit 0)) ∷ [])
+    main_of (asserts (check (failing (codes "main#assert1")) Enforce 1 (lit 0)) ∷ return_value (lit 0) ∷ [])
+    ∷ handler_of (asserts (check (failing (codes "handle_contract_violation#assert1")) Enforce 1 (lit 0)) ∷ [])
     ∷ [])) { handler = Some 1 }
 
 abbrev pub event_count : Meaning → ℕ × Answer

@@ -3,13 +3,13 @@ use Rattle.std.specs.Prelude.{refl, true, [], ◌∷◌, Some, None, pos, codes}
 use Rattle.cx_core.specs.declared.number.IntegerType.TheVariants as types
 use Rattle.cx_core.specs.declared.number.BinaryOperator.TheVariants.{Add, Equal}
 use Rattle.cx_core.specs.Words.{Returned, Terminated}
-use Rattle.cx_core.specs.Tree.{class, number, literal, variable, exception_object, member, call, putchar, operand, value, construct, no_more, by_reference, by_value, reference, object, empty, expression, variable_declaration, if_else, return_value, throw, rethrow, try, none, catch, catch_all}
+use Rattle.cx_core.specs.Tree.{class, number, literal, variable, exception_object, member, call, putchar, operand, value, construct, no_more, by_reference, by_value, reference, object, empty, variable_declaration, if_else, return_value, throw, rethrow, try, none, catch, catch_all}
 use Rattle.cx_core.specs.Program.{Program, Class, number_leaf, void}
 use Rattle.cx_core.specs.Event.{Event, out, destroyed}
 use Rattle.cx_core.specs.Event as event
 use Rattle.cx_core.specs.Meaning.{running}
 use Rattle.cx_core.specs.Runs.{IsRun}
-use Rattle.cx_core.proofs.rows.Writing.{caught_int, int, char, lit, as_is, read_int, read_char, read_variable, ints, int_arg, own, say, list, main_of, function_of, constructor_of, destructor_of, constructs, destroys, int_field, class_of_one, empty_class, program_of}
+use Rattle.cx_core.proofs.rows.Writing.{caught_int, int, char, lit, as_is, read_int, read_char, read_variable, ints, int_arg, own, say, list, main_of, function_of, constructor_of, destructor_of, constructs, destroys, int_field, class_of_one, empty_class, program_of, does}
 
 -- struct E { int c; E(int n) : c(n) {} };
 -- struct M { char n; M(char k) : n(k) { if (k == 'c') throw E(9); } ~M() { putchar(n); } };
@@ -35,7 +35,7 @@ third_field_throws = program_of (class_of_one (codes "E") int None 7 2 ∷ class
     ∷ destroys 0
     ∷ constructor_of (record { leaf = 0; type = char; init = value (operand (Some char) None (variable 1)) } ∷ [])
     (if_else (as_is (ints Equal (read_char (variable 1)) (operand None (Some types.Int) (literal (number (pos 99)))))) (throw (class 0) (construct 1 (int_arg 9 no_more))) empty ∷ [])
-    ∷ destructor_of 1 (expression (putchar (read_char (own 0))) ∷ [])
+    ∷ destructor_of 1 (does (putchar (read_char (own 0))) ∷ [])
     ∷ constructor_of (
     record { leaf = 0; type = class 1; init = construct 3 (by_value char (value (lit 97)) no_more) }
     ∷ record { leaf = 1; type = class 1; init = construct 3 (by_value char (value (lit 98)) no_more) }
@@ -57,7 +57,7 @@ constructed_fields_are_destroyed_in_reverse = refl
 pub copy_into_a_catch_parameter_has_an_edge :
     IsRun (program_of (empty_class (codes "E") 1 2 3 ∷ []) (
     main_of (
-    try (list (try (list (throw (class 0) (construct 1 no_more) ∷ [])) (catch (class 0) (object 0 (construct 2 (by_reference exception_object no_more))) (list []) none) ∷ []))
+    try (list (try (list (throw (class 0) (construct 1 no_more) ∷ [])) (catch (class 0) (object 0 true (construct 2 (by_reference exception_object no_more))) (list []) none) ∷ []))
     (catch int caught_int (list (return_value (lit 3) ∷ [])) none)
     ∷ return_value (lit 0) ∷ [])
     ∷ constructor_of [] []
@@ -75,7 +75,7 @@ nothing_to_rethrow = refl
 -- struct U { ~U() { putchar('u'); } }; void f() noexcept { U u; throw 1; } int main(){ f(); return 0; }
 pub noexcept_edge_ends_what_lies_inside :
     IsRun (program_of (empty_class (codes "U") 2 4 3 ∷ []) (
-    main_of (expression (call 1 no_more) ∷ return_value (lit 0) ∷ [])
+    main_of (does (call 1 no_more) ∷ return_value (lit 0) ∷ [])
     ∷ record (function_of void (variable_declaration 0 (class 0) (construct 2 no_more) ∷ throw int (value (lit 1)) ∷ [])) { noexcept = true }
     ∷ constructs 0
     ∷ destructor_of 0 (say 117 ∷ [])
@@ -98,7 +98,7 @@ pub rethrown_exception_is_caught_again :
     IsRun (program_of [] (
     main_of (
     try (list (try (list (throw int (value (lit 1)) ∷ [])) (catch int caught_int (list (rethrow ∷ [])) none) ∷ []))
-    (catch int (object 0 (value (read_int exception_object))) (list (return_value (as_is (ints Add (read_variable 0) (lit 1))) ∷ [])) none)
+    (catch int (object 0 true (value (read_int exception_object))) (list (return_value (as_is (ints Add (read_variable 0) (lit 1))) ∷ [])) none)
     ∷ [])
     ∷ [])) [] (event.throw (codes "int") ∷ event.catch (codes "int") ∷ event.throw (codes "int") ∷ event.catch (codes "int") ∷ []) (Returned (pos 2)) 99
 unfolding running

@@ -5,14 +5,14 @@ use Rattle.cx_core.specs.declared.number.IntegerType.TheVariants as types
 use Rattle.cx_core.specs.declared.number.BinaryOperator.TheVariants.{Add, Subtract, Divide, ShiftLeft, Less, Greater, Equal, NotEqual}
 use Rattle.cx_core.specs.declared.number.UnaryOperator.TheVariants.{Not}
 use Rattle.cx_core.specs.Words.{Returned, Undefined, Shift, Null, Dead, Unset, Flow}
-use Rattle.cx_core.specs.Tree.{scalar, pointer, number, nullptr, Expr, literal, variable, global, unary, binary, logical_and, logical_or, conditional, assign, compound_assign, prefix_step, postfix_step, indirection, call, getchar, Operand, operand, value, no_more, by_reference, always, while, Stmt, empty, expression, variable_declaration, reference_declaration, block, if_else, while_loop, for_loop, break, continue, return_value, return_reference}
+use Rattle.cx_core.specs.Tree.{scalar, pointer, number, nullptr, Expr, literal, variable, global, unary, binary, logical_and, logical_or, conditional, assign, compound_assign, prefix_step, postfix_step, indirection, call, getchar, Operand, operand, value, no_more, by_reference, always, while, Stmt, empty, variable_declaration, reference_declaration, block, if_else, while_loop, for_loop, break, continue, return_value, return_reference, Check}
 use Rattle.cx_core.specs.Program.{Program, scalar_value, reference}
 use Rattle.cx_core.specs.Event.{input, input_end}
 use Rattle.cx_core.specs.Meaning.{running}
 use Rattle.cx_core.specs.Runs.{IsRun}
-use Rattle.cx_core.proofs.rows.Writing.{lit, minus_one, as_is, read_int, read_pointer, read_variable, ints, int_variable, set_int, list, main_of, function_of, program_of}
+use Rattle.cx_core.proofs.rows.Writing.{int, lit, minus_one, as_is, read_int, read_pointer, read_variable, ints, int_variable, set_int, list, main_of, function_of, program_of, does}
 
-abbrev pub runs_main : List Stmt → Program
+abbrev pub runs_main : List (Stmt Check) → Program
 runs_main body = program_of [] (main_of body ∷ [])
 
 -- int main(){ unsigned k = 0; k = k - 1; return k > 4000000000; }
@@ -22,7 +22,7 @@ unsigned_of e = operand (Some (scalar scalars.Unsigned)) None e
 pub unsigned_arithmetic_wraps :
     IsRun (runs_main (
     variable_declaration 0 (scalar scalars.Unsigned) (value (operand None (Some types.Unsigned) (literal (number (pos 0)))))
-    ∷ expression (assign (variable 0) (as_is (binary Subtract types.Unsigned (unsigned_of (variable 0)) (operand None (Some types.Unsigned) (literal (number (pos 1)))))))
+    ∷ does (assign (variable 0) (as_is (binary Subtract types.Unsigned (unsigned_of (variable 0)) (operand None (Some types.Unsigned) (literal (number (pos 1)))))))
     ∷ return_value (operand None (Some types.Int) (binary Greater types.LongLong (operand (Some (scalar scalars.Unsigned)) (Some types.LongLong) (variable 0)) (lit 4000000000)))
     ∷ [])) [] [] (Returned (pos 1)) 99
 unfolding running
@@ -53,11 +53,11 @@ what_is_not_needed_is_not_evaluated = refl
 pub break_and_continue :
     IsRun (runs_main (
     int_variable 0 (lit 0)
-    ∷ for_loop (int_variable 1 (lit 0)) (while (as_is (ints Less (read_variable 1) (lit 9)))) (expression (prefix_step Add types.Int (variable 1)))
+    ∷ for_loop (int_variable 1 (lit 0)) (while (as_is (ints Less (read_variable 1) (lit 9)))) (does (prefix_step Add types.Int (variable 1)))
     (block (list (
     if_else (as_is (ints Equal (read_variable 1) (lit 2))) continue empty
     ∷ if_else (as_is (ints Equal (read_variable 1) (lit 5))) break empty
-    ∷ expression (compound_assign Add types.Int types.Int (variable 0) (read_variable 1))
+    ∷ does (compound_assign Add types.Int types.Int (variable 0) (read_variable 1))
     ∷ [])))
     ∷ return_value (read_variable 0)
     ∷ [])) [] [] (Returned (pos 8)) 99
@@ -77,7 +77,7 @@ postfix_gives_the_old_value = refl
 abbrev pub steps_a_global : Program
 steps_a_global = record (program_of [] (
     main_of (return_value (as_is (ints Add (as_is (call 1 (by_reference (global 0) no_more))) (read_int (global 0)))) ∷ [])
-    ∷ function_of scalar_value (expression (compound_assign Add types.Int types.Int (variable 0) (lit 2)) ∷ return_value (read_variable 0) ∷ [])
+    ∷ function_of scalar_value (does (compound_assign Add types.Int types.Int (variable 0) (lit 2)) ∷ return_value (read_variable 0) ∷ [])
     ∷ [])) { globals = number (pos 5) ∷ [] }
 
 pub operands_are_evaluated_left_to_right : IsRun steps_a_global [] [] (Returned (pos 14)) 99
@@ -122,7 +122,7 @@ pointer_to_an_object_that_has_ended = refl
 
 -- int main(){ int* p = nullptr; return *p; }
 pub null_pointer_is_no_object :
-    IsRun (runs_main (variable_declaration 0 pointer (value (as_is (literal nullptr))) ∷ return_value (read_int (indirection (read_pointer (variable 0)))) ∷ []))
+    IsRun (runs_main (variable_declaration 0 (pointer int) (value (as_is (literal nullptr))) ∷ return_value (read_int (indirection (read_pointer (variable 0)))) ∷ []))
     [] [] (Undefined Null) 99
 unfolding running
 null_pointer_is_no_object = refl
@@ -141,7 +141,7 @@ reference_in_its_own_initialiser_denotes_nothing = refl
 -- int& f(int& x) { return x; } int main(){ int k = 1; f(k) = 6; return k; }
 pub reference_result_is_an_lvalue :
     IsRun (program_of [] (
-    main_of (int_variable 0 (lit 1) ∷ expression (assign (call 1 (by_reference (variable 0) no_more)) (lit 6)) ∷ return_value (read_variable 0) ∷ [])
+    main_of (int_variable 0 (lit 1) ∷ does (assign (call 1 (by_reference (variable 0) no_more)) (lit 6)) ∷ return_value (read_variable 0) ∷ [])
     ∷ function_of reference (return_reference (variable 0) ∷ [])
     ∷ [])) [] [] (Returned (pos 6)) 99
 unfolding running

@@ -2,14 +2,14 @@
 use Rattle.std.specs.Prelude.{refl, true, List, [], ◌∷◌, Some, None, pos, codes}
 use Rattle.cx_core.specs.declared.number.BinaryOperator.TheVariants.{Equal}
 use Rattle.cx_core.specs.Words.{Pre, Post, Assert, Definer, Observe, Enforce, Holds, Threw, EvaluationException, Returned}
-use Rattle.cx_core.specs.Tree.{class, variable, member, call, temporary, value, construct, no_more, by_reference, by_value, Assertion, expression, variable_declaration, return_value, contract_assert, throw, try, none, catch}
+use Rattle.cx_core.specs.Tree.{class, variable, member, call, temporary, value, construct, no_more, by_reference, by_value, Assertion, variable_declaration, return_value, throw, try, none, catch}
 use Rattle.cx_core.specs.Program.{Class, number_leaf, void, scalar_value}
 use Rattle.cx_core.specs.Event.{Event, out, begin, verdict, handler, destroyed}
 use Rattle.cx_core.specs.Event as event
 use Rattle.cx_core.specs.Check.{violation_of}
 use Rattle.cx_core.specs.Meaning.{running}
 use Rattle.cx_core.specs.Runs.{IsRun}
-use Rattle.cx_core.proofs.rows.Writing.{caught_int, int, lit, as_is, read_int, read_variable, ints, int_arg, say, list, assertion, check, evaluation_of, pre, post, main_of, function_of, checked_function, constructor_of, destructor_of, constructs, destroys, int_field, class_of_one, empty_class, program_of}
+use Rattle.cx_core.proofs.rows.Writing.{caught_int, int, lit, as_is, read_int, read_variable, ints, int_arg, say, list, assertion, check, evaluation_of, pre, post, main_of, function_of, checked_function, constructor_of, destructor_of, constructs, destroys, int_field, class_of_one, empty_class, program_of, does, asserts}
 
 -- struct P { ~P() { putchar('p'); } }; struct T { int v; T(int n) : v(n) {} ~T() { putchar('t'); } };
 abbrev pub p_and_t : List Class
@@ -19,7 +19,7 @@ p_and_t = empty_class (codes "P") 1 9 2 ∷ class_of_one (codes "T") int None 9 
 pub parameters_end_before_temporaries :
     IsRun (program_of p_and_t (
     main_of (
-    expression (call 5 (by_value int (value (read_int (member 0 (temporary (class 1) (construct 3 (int_arg 1 no_more)))))) (by_value (class 0) (construct 1 no_more) no_more)))
+    does (call 5 (by_value int (value (read_int (member 0 (temporary (class 1) (construct 3 (int_arg 1 no_more)))))) (by_value (class 0) (construct 1 no_more) no_more)))
     ∷ return_value (lit 0) ∷ [])
     ∷ constructs 0 ∷ destructor_of 0 (say 112 ∷ [])
     ∷ constructor_of (int_field 0 (read_variable 1) ∷ []) [] ∷ destructor_of 1 (say 116 ∷ [])
@@ -33,7 +33,7 @@ parameters_end_before_temporaries = refl
 pub later_argument_throws :
     IsRun (program_of p_and_t (
     main_of (
-    try (list (expression (call 5 (by_value (class 0) (construct 1 no_more) (by_value int (value (as_is (call 6 no_more))) no_more))) ∷ []))
+    try (list (does (call 5 (by_value (class 0) (construct 1 no_more) (by_value int (value (as_is (call 6 no_more))) no_more))) ∷ []))
     (catch int caught_int (list (return_value (lit 3) ∷ [])) none)
     ∷ return_value (lit 0) ∷ [])
     ∷ constructs 0 ∷ destructor_of 0 (say 112 ∷ [])
@@ -92,7 +92,7 @@ bad_before = assertion Pre (codes "f#pre1") 1 42 (codes "bad ( )")
 
 pub exception_of_a_predicate_does_not_reach_the_edge :
     IsRun (program_of [] (
-    main_of (expression (call 1 no_more) ∷ return_value (lit 0) ∷ [])
+    main_of (does (call 1 no_more) ∷ return_value (lit 0) ∷ [])
     ∷ record (checked_function void (pre (check bad_before Observe 1 (as_is (call 2 no_more)) ∷ [])) []) { noexcept = true }
     ∷ function_of scalar_value (throw int (value (lit 7)) ∷ [])
     ∷ [])) [] (
@@ -109,7 +109,7 @@ pub predicate_names_the_const_member :
     IsRun (program_of (empty_class (codes "S") 1 9 2 ∷ []) (
     main_of (
     variable_declaration 0 (class 0) (construct 1 no_more)
-    ∷ contract_assert (check const_member Enforce 1 (as_is (ints Equal (as_is (call 4 (by_reference (member 0 (variable 0)) no_more))) (lit 2))))
+    ∷ asserts (check const_member Enforce 1 (as_is (ints Equal (as_is (call 4 (by_reference (member 0 (variable 0)) no_more))) (lit 2))))
     ∷ return_value (as_is (call 3 (by_reference (member 0 (variable 0)) no_more))) ∷ [])
     ∷ constructs 0 ∷ destroys 0
     ∷ function_of scalar_value (return_value (lit 1) ∷ [])

@@ -4,8 +4,8 @@ use Rattle.cx_types.specs.declared.value_type.Scalar.TheVariants as scalars
 use Rattle.cx_core.specs.declared.number.IntegerType.TheVariants as types
 use Rattle.cx_core.specs.declared.number.BinaryOperator.{BinaryOperator}
 use Rattle.cx_core.specs.Words.{AssertionKind, Party, Semantic}
-use Rattle.cx_core.specs.Tree.{ObjectType, scalar, pointer, number, Expr, literal, variable, this, binary, assign, indirection, member, putchar, Operand, operand, value, Args, by_value, Assertion, Check, Stmt, expression, variable_declaration, Stmts, done, next, CatchParameter, object, exception_object}
-use Rattle.cx_core.specs.Program.{Checks, FieldInit, Body, function, violation_handler, constructor, destructor, implicit_constructor, implicit_copy_constructor, implicit_destructor, ResultKind, void, exit_status, Function, number_leaf, empty_leaf, Class, Program}
+use Rattle.cx_core.specs.Tree.{ObjectType, scalar, pointer, number, Expr, literal, variable, this, binary, assign, indirection, member, putchar, Operand, operand, value, Args, by_value, Assertion, Check, Specifier, Stmt, contract_assert, expression, variable_declaration, Stmts, done, next, CatchParameter, object, exception_object}
+use Rattle.cx_core.specs.Program.{Checks, FieldInit, Body, function, constructor, destructor, implicit_constructor, implicit_copy_constructor, implicit_destructor, ResultKind, void, exit_status, Function, number_leaf, empty_leaf, Class, Program}
 use Rattle.cx_core.specs.Event.{Evaluation}
 
 abbrev pub int : ObjectType
@@ -23,7 +23,7 @@ abbrev pub read_int : Expr → Operand
 read_int e = operand (Some int) None e
 
 abbrev pub read_pointer : Expr → Operand
-read_pointer e = operand (Some pointer) None e
+read_pointer e = operand (Some (pointer (scalar scalars.Int))) None e
 
 -- a `char` that is promoted
 abbrev pub read_char : Expr → Operand
@@ -48,25 +48,29 @@ own leaf = member leaf (indirection (as_is this))
 
 -- ---- statements
 
-abbrev pub list : List Stmt → Stmts
+abbrev pub list : List (Stmt Check) → Stmts Check
 list [] = done
 list (s ∷ statements) = next s (list statements)
 
-abbrev pub int_variable : (slot : ℕ) → Operand → Stmt
+-- an expression that is discarded and not read
+abbrev pub does : Expr → Stmt Check
+does e = expression (as_is e)
+
+abbrev pub int_variable : (slot : ℕ) → Operand → Stmt Check
 int_variable slot a = variable_declaration slot int (value a)
 
 abbrev pub read_variable : (slot : ℕ) → Operand
 read_variable slot = read_int (variable slot)
 
-abbrev pub set_int : (slot : ℕ) → Operand → Stmt
-set_int slot a = expression (assign (variable slot) a)
+abbrev pub set_int : (slot : ℕ) → Operand → Stmt Check
+set_int slot a = does (assign (variable slot) a)
 
-abbrev pub say : ℕ → Stmt
-say c = expression (putchar (lit c))
+abbrev pub say : ℕ → Stmt Check
+say c = does (putchar (lit c))
 
 -- the parameter of `catch (int)`, in a slot of its own
 abbrev pub caught_int : CatchParameter
-caught_int = object 9 (value (read_int exception_object))
+caught_int = object 9 true (value (read_int exception_object))
 
 -- ---- contracts
 
@@ -77,8 +81,11 @@ assertion_in file kind name line column comment =
 abbrev pub assertion : AssertionKind → List ℕ → (line column : ℕ) → List ℕ → Assertion
 assertion kind name line column comment = assertion_in (codes "a.cpp") kind name line column comment
 
-abbrev pub check : Assertion → Semantic → (times : ℕ) → Operand → Check
-check a semantic times predicate = record { assertion = a; semantic = semantic; times = times; predicate = predicate }
+abbrev pub check : Assertion → Semantic → (times : ℕ) → Operand → Specifier Check
+check a semantic times predicate = record { of = record { assertion = a; semantic = semantic; times = times }; predicate = predicate }
+
+abbrev pub asserts : Specifier Check → Stmt Check
+asserts s = contract_assert s.of s.predicate
 
 abbrev pub evaluation_of : Assertion → Party → Semantic → Evaluation
 evaluation_of a party semantic = record { assertion = a.name; party = party; semantic = semantic }
@@ -86,33 +93,33 @@ evaluation_of a party semantic = record { assertion = a.name; party = party; sem
 abbrev pub no_checks : Checks
 no_checks = record { preconditions = []; postconditions = [] }
 
-abbrev pub pre : List Check → Checks
+abbrev pub pre : List (Specifier Check) → Checks
 pre checks = record { preconditions = checks; postconditions = [] }
 
-abbrev pub post : List Check → Checks
+abbrev pub post : List (Specifier Check) → Checks
 post checks = record { preconditions = []; postconditions = checks }
 
 -- ---- functions, classes, programs
 
-abbrev pub with_body : ResultKind → Checks → Body → Function
+abbrev pub with_body : ResultKind → Checks → Body Check → Function
 with_body result checks body = record { definer = 0; noexcept = false; result = result; checks = checks; body = body }
 
-abbrev pub checked_function : ResultKind → Checks → List Stmt → Function
+abbrev pub checked_function : ResultKind → Checks → List (Stmt Check) → Function
 checked_function result checks body = with_body result checks (function (list body))
 
-abbrev pub function_of : ResultKind → List Stmt → Function
+abbrev pub function_of : ResultKind → List (Stmt Check) → Function
 function_of result body = checked_function result no_checks body
 
-abbrev pub main_of : List Stmt → Function
+abbrev pub main_of : List (Stmt Check) → Function
 main_of body = function_of exit_status body
 
-abbrev pub handler_of : List Stmt → Function
-handler_of body = with_body void no_checks (violation_handler (list body))
+abbrev pub handler_of : List (Stmt Check) → Function
+handler_of body = with_body void no_checks (function (list body))
 
-abbrev pub constructor_of : List FieldInit → List Stmt → Function
+abbrev pub constructor_of : List FieldInit → List (Stmt Check) → Function
 constructor_of fields body = with_body void no_checks (constructor fields (list body))
 
-abbrev pub destructor_of : (class : ℕ) → List Stmt → Function
+abbrev pub destructor_of : (class : ℕ) → List (Stmt Check) → Function
 destructor_of c body = with_body void no_checks (destructor c (list body))
 
 abbrev pub constructs : (class : ℕ) → Function

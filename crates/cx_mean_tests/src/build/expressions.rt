@@ -1,7 +1,7 @@
-use crate::build::{Build, CHAR, INT, Made, POINTER_TO_INT};
+use crate::build::{Build, CHAR, INT, Made, POINTER_TO_INT, pointer_to_function};
 use cx_core::{
-    Argument, BinaryOperator, Constant, Expression, Initializer, IntegerType, Operand, Query,
-    UnaryOperator,
+    Argument, BinaryOperator, Constant, Expression, Initializer, IntegerType, Operand,
+    PointedResult, Query, UnaryOperator,
 };
 use cx_outside::Text;
 use cx_types::ValueType;
@@ -131,6 +131,16 @@ impl Build {
         Ok(Expression::Call(function, arguments?))
     }
 
+    /// A call of what a pointer holds.
+    pub fn call_through(
+        self,
+        gives: PointedResult,
+        pointer: Made<Operand>,
+        arguments: Made<Vec<Argument>>,
+    ) -> Made<Expression> {
+        Ok(Expression::CallThrough(gives, self.boxed(pointer)?, arguments?))
+    }
+
     /// A temporary of class type.
     pub fn temporary(self, of: ValueType, init: Made<Initializer>) -> Made<Expression> {
         Ok(Expression::Temporary(of, self.boxed(init)?))
@@ -221,6 +231,16 @@ impl Build {
         self.read(POINTER_TO_INT, place)
     }
 
+    /// A pointer to functions of this type is read, in this slot.
+    pub fn pointer_in(self, slot: u32, of: u32) -> Made<Operand> {
+        self.read(pointer_to_function(of), self.variable(slot))
+    }
+
+    /// The name of a function, as a pointer to it.
+    pub fn named(self, function: u32) -> Made<Operand> {
+        self.as_is(Ok(Expression::FunctionName(function)))
+    }
+
     /// The `int` in this slot.
     pub fn value_in(self, slot: u32) -> Made<Operand> {
         self.read_int(self.variable(slot))
@@ -282,6 +302,15 @@ impl Build {
     /// The object is the result of a call.
     pub fn result_of(self, function: u32, arguments: Made<Vec<Argument>>) -> Made<Initializer> {
         Ok(Initializer::ResultOf(function, arguments?))
+    }
+
+    /// The object is the result of a call of what a pointer holds.
+    pub fn result_through(
+        self,
+        pointer: Made<Operand>,
+        arguments: Made<Vec<Argument>>,
+    ) -> Made<Initializer> {
+        Ok(Initializer::ResultThrough(self.boxed(pointer)?, arguments?))
     }
 
     /// Bound to a reference, or the object of a member call.

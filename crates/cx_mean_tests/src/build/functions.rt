@@ -33,8 +33,7 @@ impl Build {
 
     /// `handle_contract_violation`.
     pub fn violation_handler(self, body: Made<Vec<Statement>>) -> Made<Function> {
-        let body = Body::ViolationHandler(body?);
-        self.with_body(ResultKind::Void, Ok(body))
+        self.function(ResultKind::Void, body)
     }
 
     /// A constructor by what it initialises fields with, in their order, and its body.

@@ -1,4 +1,4 @@
-use crate::build::{Build, INT, Made, class};
+use crate::build::{Build, INT, Made, class, pointer_to_function};
 use cx_core::{CatchParameter, Expression, Handler, Initializer, Operand, Statement};
 use cx_types::ValueType;
 
@@ -13,8 +13,13 @@ impl Build {
     }
 
     /// An expression whose value is discarded.
+    pub fn discards(self, operand: Made<Operand>) -> Made<Statement> {
+        Ok(Statement::Expression(operand?))
+    }
+
+    /// An expression whose value is discarded, and isn't read.
     pub fn does(self, expression: Made<Expression>) -> Made<Statement> {
-        Ok(Statement::Expression(expression?))
+        self.discards(self.as_is(expression))
     }
 
     /// `putchar` of this byte.
@@ -30,6 +35,11 @@ impl Build {
     /// A variable of type `int` in this slot.
     pub fn declare_int(self, slot: u32, value: Made<Operand>) -> Made<Statement> {
         self.declare(slot, INT, self.value(value))
+    }
+
+    /// A pointer to functions of this type, in this slot.
+    pub fn declare_pointer(self, slot: u32, of: u32, value: Made<Operand>) -> Made<Statement> {
+        self.declare(slot, pointer_to_function(of), self.value(value))
     }
 
     /// An object of this class, by a constructor without arguments.
@@ -154,7 +164,7 @@ impl Build {
     ) -> Made<Handler> {
         Ok(Handler {
             catches: Some(of),
-            parameter: CatchParameter::Object(slot, init?),
+            parameter: CatchParameter::Object(slot, slot != UNNAMED, init?),
             body: body?,
         })
     }

@@ -1,6 +1,6 @@
 use crate::build::{Build, INT, Made, Makers, Stated, Under, class};
 use cx_code::{AssertionKind, Semantic};
-use cx_core::{BinaryOperator, ResultKind, Statement};
+use cx_core::{BinaryOperator, Operand, ResultKind, Statement};
 use cx_mean::{Function, Program};
 
 /// A function that gives a number.
@@ -69,6 +69,27 @@ pub fn unset_field(b: Build) -> Made<Program> {
     b.with_classes(b.list([s]), b.program(of_implicit_class(b, body)))
 }
 
+/// `struct S { int a; };` and a `main` that discards a value of its `S s`, and returns 0.
+fn discarding(b: Build, value: Made<Operand>) -> Made<Program> {
+    let body = b.list([
+        b.declare_plainly(0, 0, 1),
+        b.discards(value),
+        b.returns(b.number(0)),
+    ]);
+    let s = b.class_of_one(b"S", INT, Makers::from_number(1));
+    b.with_classes(b.list([s]), b.program(of_implicit_class(b, body)))
+}
+
+/// `struct S { int a; }; int main(){ S s; +s.a; return 0; }`
+pub fn discarding_a_value(b: Build) -> Made<Program> {
+    discarding(b, b.read_int(b.member(0, b.variable(0))))
+}
+
+/// `struct S { int a; }; int main(){ S s; s.a; return 0; }`
+pub fn discarding_an_lvalue(b: Build) -> Made<Program> {
+    discarding(b, b.as_is(b.member(0, b.variable(0))))
+}
+
 const IS_CONST: Stated = Stated {
     kind: AssertionKind::Assert,
     name: b"main#assert1",
@@ -112,6 +133,22 @@ pub fn inline_member(b: Build) -> Made<Program> {
         b.returns(b.called(4, b.list([b.on(0)]))),
     ]);
     let functions = b.joined(of_implicit_class(b, body), b.list([giving(b, 4)]));
+    let s = b.empty_class(b"S", Makers::from_number(1));
+    b.with_classes(b.list([s]), b.program(functions))
+}
+
+/// `struct S { int f() { return 1; } int g() { return f(); } }; int main(){ S s; return s.g(); }`
+pub fn naming_a_member_alone(b: Build) -> Made<Program> {
+    let body = b.list([
+        b.declare_plainly(0, 0, 1),
+        b.returns(b.called(5, b.list([b.on(0)]))),
+    ]);
+    let own = b.list([b.by_reference(b.own(0))]);
+    let g = b.function(
+        ResultKind::ScalarValue,
+        b.list([b.returns(b.called(4, own))]),
+    );
+    let functions = b.joined(of_implicit_class(b, body), b.list([giving(b, 1), g]));
     let s = b.empty_class(b"S", Makers::from_number(1));
     b.with_classes(b.list([s]), b.program(functions))
 }

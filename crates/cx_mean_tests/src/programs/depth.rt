@@ -1,4 +1,4 @@
-use crate::build::{Build, Made, Stated, Under};
+use crate::build::{Build, Made, POINTER_TO_INT, Stated, Under};
 use cx_code::{AssertionKind, Semantic};
 use cx_core::{BinaryOperator, ResultKind};
 use cx_mean::Program;
@@ -17,6 +17,20 @@ pub fn calling_itself(b: Build, number: i128) -> Made<Program> {
             b.returns(b.called(1, next)),
         ]),
     );
+    b.program(b.list([main, f]))
+}
+
+/// `int f(int x){return x;} int main(){ int* p = nullptr; return f(f(f(*p))); }`, with so many calls inside one another.
+pub fn calls_round_null(b: Build, calls: u32) -> Made<Program> {
+    let mut value = b.read_int(b.indirection(b.read_pointer(b.variable(0))));
+    for _ in 0..calls {
+        value = b.called(1, b.list([b.int_argument(value)]));
+    }
+    let main = b.main(b.list([
+        b.declare(0, POINTER_TO_INT, b.value(b.null())),
+        b.returns(value),
+    ]));
+    let f = b.function(ResultKind::ScalarValue, b.list([b.returns(b.value_in(0))]));
     b.program(b.list([main, f]))
 }
 

@@ -157,3 +157,59 @@ pub fn throwing_a_char(b: Build) -> Made<Program> {
 pub fn catching_nothing(b: Build) -> Made<Program> {
     b.program(b.list([b.main(b.list([b.throws_int(1)]))]))
 }
+
+/// `struct A { A() {} A(const A& o) {} ~A() { putchar('a'); } };`,
+/// `struct B { B() {} B(const B& o) { throw 3; } ~B() { putchar('b'); } };` and `struct W { A a; B b; };`, whose
+/// functions begin at 1, 4 and 7.
+fn functions_of_fields(b: Build) -> Made<Vec<Function>> {
+    b.list([
+        b.constructor(b.list([]), b.list([])),
+        b.constructor(b.list([]), b.list([])),
+        b.destructor(0, b.list([b.says(b'a')])),
+        b.constructor(b.list([]), b.list([])),
+        b.constructor(b.list([]), b.list([b.throws_int(3)])),
+        b.destructor(1, b.list([b.says(b'b')])),
+        b.implicit_constructor(2),
+        b.implicit_copy(2),
+        b.implicit_destructor(2),
+    ])
+}
+
+/// ```cpp
+/// #include <cstdio>
+/// struct A { A() {} A(const A& o) {} ~A() { putchar('a'); } };
+/// struct B { B() {} B(const B& o) { throw 3; } ~B() { putchar('b'); } };
+/// struct W { A a; B b; };
+/// int main() { try { W w; W x = w; } catch (int e) { return e; } return 0; }
+/// ```
+pub fn throwing_copy_of_a_field(b: Build) -> Made<Program> {
+    let body = b.list([
+        b.declare_plainly(0, 2, 7),
+        b.declare(1, class(2), b.copy(8, b.variable(0))),
+    ]);
+    let catching = b.catches_int_in(2, b.list([b.returns(b.value_in(2))]));
+    let main = b.main(b.list([b.tries(body, b.list([catching])), b.returns(b.number(0))]));
+    let w = b.class(
+        b"W",
+        &[
+            Field {
+                leaf: 0,
+                of: class(0),
+            },
+            Field {
+                leaf: 1,
+                of: class(1),
+            },
+        ],
+        &[LeafKind::Empty, LeafKind::Empty],
+        3,
+        Makers::from_number(7),
+    );
+    let classes = b.list([
+        b.empty_class(b"A", Makers::from_number(1)),
+        b.empty_class(b"B", Makers::from_number(4)),
+        w,
+    ]);
+    let functions = b.joined(b.list([main]), functions_of_fields(b));
+    b.with_classes(classes, b.program(functions))
+}

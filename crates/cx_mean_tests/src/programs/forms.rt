@@ -13,6 +13,19 @@ pub fn empty_main(b: Build) -> Made<Program> {
     alone(b, b.list([]))
 }
 
+/// `int main(){ int k = 1; return k; }`
+pub fn one_variable(b: Build) -> Made<Program> {
+    alone(
+        b,
+        b.list([b.declare_int(0, b.number(1)), b.returns(b.value_in(0))]),
+    )
+}
+
+/// After `#include <cstdio>`: `int main(){ puts("hi"); return 0; }`, with this text.
+pub fn putting(b: Build, text: &[u8]) -> Made<Program> {
+    alone(b, b.list([b.does(b.puts(text)), b.returns(b.number(0))]))
+}
+
 /// `n += a * b;` and the like, of the variables in slots 0 to 2.
 fn adds(b: Build, operator: BinaryOperator) -> Made<Statement> {
     let value = b.ints(operator, b.value_in(1), b.value_in(2));

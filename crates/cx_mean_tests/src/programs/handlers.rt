@@ -225,3 +225,29 @@ pub fn handler_asks(b: Build) -> Made<Program> {
         b.with_handler(1, b.program(b.list([main, handler]))),
     )
 }
+
+/// ```cpp
+/// #include <contracts>
+/// int n = 0;
+/// void handle_contract_violation(const std::contracts::contract_violation& v) {
+///   n = n + 1; if (n < 2) handle_contract_violation(v); }
+/// int main() { contract_assert(false); return n; }
+/// ```
+pub fn handler_called_by_name(b: Build) -> Made<Program> {
+    let main = b.main(b.list([
+        b.asserts(0, b.number(0)),
+        b.returns(b.read_int(b.global(0))),
+    ]));
+    let more = b.ints(BinaryOperator::Add, b.read_int(b.global(0)), b.number(1));
+    let is_first = b.ints(BinaryOperator::Less, b.read_int(b.global(0)), b.number(2));
+    let again = b.call(1, b.list([b.by_reference(b.variable(0))]));
+    let handler = b.violation_handler(b.list([
+        b.does(b.assign(b.global(0), more)),
+        b.if_so(is_first, b.does(again)),
+    ]));
+    let program = b.with_global(0, b.program(b.list([main, handler])));
+    b.with_assertions(
+        &[Under(in_main(5, 14, b"false"), Semantic::Observe, 1)],
+        b.with_handler(1, program),
+    )
+}

@@ -64,6 +64,21 @@ pub const ROWS: &[Row] = &[
                returned 3\n",
         ..PLAIN
     },
+    // `w` is object 1, `x` 2, the exception object 3: the field that is copied ends before `w`
+    Row {
+        of: Worked::ThrowingCopyOfAField,
+        told: "throw int\n\
+               out 97\n\
+               destroyed A 2 0\n\
+               out 98\n\
+               destroyed B 1 1\n\
+               out 97\n\
+               destroyed A 1 0\n\
+               destroyed W 1 0\n\
+               catch int\n\
+               returned 3\n",
+        ..PLAIN
+    },
     Row {
         of: Worked::ThrowingDestructor,
         told: "throw int\n\

@@ -162,4 +162,13 @@ pub const ROWS: &[Row] = &[
                returned 3\n",
         ..PLAIN
     },
+    // the handler's own call of itself is told as no call of a handler
+    Row {
+        of: Worked::HandlerCalledByName,
+        told: "begin main#assert1 definer observe\n\
+               verdict false\n\
+               handler assert predicate_false observe a.cpp:5:14 main#assert1: false\n\
+               returned 2\n",
+        ..PLAIN
+    },
 ];

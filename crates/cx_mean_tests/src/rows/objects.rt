@@ -23,6 +23,18 @@ pub const ROWS: &[Row] = &[
         told: "undefined: unset\n",
         ..PLAIN
     },
+    // a discarded value that is no lvalue is read
+    Row {
+        of: Worked::DiscardingAValue,
+        told: "undefined: unset\n",
+        ..PLAIN
+    },
+    Row {
+        of: Worked::DiscardingAnLvalue,
+        told: "destroyed S 1 0\n\
+               returned 0\n",
+        ..PLAIN
+    },
     Row {
         of: Worked::InlineMember,
         told: "destroyed S 1 0\n\

@@ -1,4 +1,4 @@
-use Rattle.std.proofs.Common.{◌≡◌, ◌+◌, Some, length, sym, ap, ◌∙◌}
+use Rattle.std.proofs.Common.{◌≡◌, ℕ, ◌+◌, Some, length, sym, ap, ◌∙◌}
 use Rattle.std.specs.Prelude.{option_map, slice_get}
 use Rattle.cx_syntax.specs.View.{expr_of}
 use Rattle.cx_core.specs.Tree as core
@@ -12,10 +12,9 @@ returns-in_ok-index-in-Some-placed_at-clause-stands c =
     let index = c.in_ok-index-in-Some-placed_at.index in
     let word = c.in-Some-placed_at.word in
     let there : slice_get list.placed c.args.at ≡ Some word = sym c.placed_at.ensures.is ∙ c.in-Some-placed_at.is in
-    λ n semantic told.
-    ap (λ (s : core.Stmt). Some s) (c.contract_assert.ensures n)
-    ∙ assertion_stands list c.args.names.now c.args.assertions.now c.entry_added.new.assertions c.args.at (expr_of c.args.predicate.now) word n semantic index (typed_of n c.in-Some.told) told
-    c.in_ok-index-in-Some-placed_at.ensures.added c.in_ok-index-in-Some-placed_at.ensures.index there (sym (c.in_ok-told.ensures n) ∙ ap (option_map (typed_of n)) c.in-Some.is)
+    ap (λ (s : core.Stmt ℕ). Some s) c.contract_assert.ensures
+    ∙ assertion_stands list c.args.names.now c.args.assertions.now c.entry_added.new.assertions c.args.at (expr_of c.args.predicate.now) word index (typed_of c.in-Some.told)
+    c.in_ok-index-in-Some-placed_at.ensures.index there (sym c.in_ok-told.ensures ∙ ap (option_map typed_of) c.in-Some.is)
 
 pub returns-in_ok-index-in-Some-placed_at-clause-added : goal.returns-in_ok-index-in-Some-placed_at-clause-added
 returns-in_ok-index-in-Some-placed_at-clause-added c =
@@ -26,4 +25,4 @@ returns-in_ok-index-in-Some-placed_at-clause-added c =
 
 pub returns-in-None-clause-stands : goal.returns-in-None-clause-stands
 returns-in-None-clause-stands c =
-    λ n semantic told. no_predicate semantic c.args.list.now (length c.args.assertions.now + 1) c.args.names.now c.args.at (expr_of c.args.predicate.now) (sym (c.in_ok-told.ensures n) ∙ ap (option_map (typed_of n)) c.in-None.is)
+    no_predicate c.args.list.now (length c.args.assertions.now + 1) c.args.names.now c.args.at (expr_of c.args.predicate.now) (sym c.in_ok-told.ensures ∙ ap (option_map typed_of) c.in-None.is)

@@ -8,4 +8,4 @@ use Rattle.cx_front.proofs.returned.returned_in.Goals as goal
 
 pub returns-in_ok-value-in-Some : goal.returns-in_ok-value-in-Some
 returns-in_ok-value-in-Some c =
-    λ n. c.return_of.ensures n ∙ ap (option_map return_of) (c.in_ok-value-in-Some.ensures n) ∙ ap (λ (o : Option Expr). returned_in c.args.list.now c.args.names.now (option_map expr_of o)) (sym c.in-Some.is)
+    c.return_of.ensures ∙ ap (option_map return_of) c.in_ok-value-in-Some.ensures ∙ ap (λ (o : Option Expr). returned_in c.args.list.now c.args.names.now (option_map expr_of o)) (sym c.in-Some.is)

@@ -1,13 +1,12 @@
-use Rattle.std.proofs.Common.{◌+◌, refl, sym, subst, ap, arith}
-use Rattle.cx_code.specs.declared.run.Run.{Run}
+use Rattle.std.proofs.Common.{◌+◌, refl, sym, subst, arith}
 use Rattle.cx_code.specs.Run.{step}
 use Rattle.cx_sound.specs.Sound.{IsSound}
 use Rattle.cx_outside.specs.Fault.{Rose}
 use Rattle.cx_outside.specs.Told.{Appends-nothing}
 use Rattle.cx_machine.specs.States.{state_of}
 use Rattle.cx_machine.specs.Advance.{appended_by, event_of}
-use Rattle.cx_machine.proofs.Runs.{start, goes_on, ends, is_spent, is_stopped}
-use Rattle.cx_machine.proofs.Advances.{lines-none, lines_on, out_on, has_come, since_earlier, is_started}
+use Rattle.cx_machine.proofs.Runs.{start, goes_on, ends, is_spent, step_begun, is_begun}
+use Rattle.cx_machine.proofs.Advances.{lines-none, lines_on, lines_cut, out_on, has_come, since_earlier, is_started}
 use Rattle.cx_machine.proofs.running.run_steps.Goals as goal
 
 pub loop-taken-init : goal.loop-taken-init
@@ -60,17 +59,24 @@ returns-in-Ok-Some-clause-come g c =
     has_come c.in-Ok-Some.ending image bytes c.args.limit (c.loop-taken.taken + 1) c.advance.new.report (g.E.Sink.taken c.args.err.now) (g.E.Sink.taken c.advance.new.err) (Rose (g.E.Sink.faults c.args.err.now) (g.E.Sink.faults c.advance.new.err)) a.own
     (record {
       runs = ends image bytes c.loop-taken.taken c.loop-taken.report.journal s so.so_far c.args.limit last s' c.in-Ok-Some.ending c.loop-taken-test.true a.made a.journal;
-      again = sym (ap (λ (r : Run). r.journal) (ends image bytes c.loop-taken.taken c.loop-taken.report.journal s so.so_far (c.loop-taken.taken + 1) last s' c.in-Ok-Some.ending (omega arith) a.made a.journal));
+      again = ends image bytes c.loop-taken.taken c.loop-taken.report.journal s so.so_far (c.loop-taken.taken + 1) last s' c.in-Ok-Some.ending (omega arith) a.made a.journal;
       output = out_on c.loop-taken.report.out c.advance.new.report.out c.loop-taken.report.journal (appended_by (step image s)) last so.output a.output a.journal;
       lines = lines_on image (g.E.Sink.taken c.args.err.now) (g.E.Sink.taken c.loop-taken.err) (g.E.Sink.taken c.advance.new.err) c.loop-taken.report.journal (appended_by (step image s)) last so.lines a.lines a.journal;
     })
 
 pub returns-in-Err-clause-come : goal.returns-in-Err-clause-come
 returns-in-Err-clause-come g c =
+    let image = c.args.image.now in
+    let bytes = c.args.machine.now.input in
     let s = state_of c.loop-taken.machine (g.M.Memory.store c.loop-taken.memory) in
+    let so = c.loop-taken.invariant in
+    let before = c.loop-taken.report.journal in
+    let last = c.advance.new.report.journal in
     record {
-      has_cause = since_earlier c.in-Err.cause (g.E.Sink.faults c.args.err.now) (g.E.Sink.faults c.loop-taken.err) (g.E.Sink.faults c.advance.new.err) c.loop-taken.invariant.later c.in-Err.ensures.cause;
-      front = is_stopped c.args.image.now c.args.machine.now.input c.loop-taken.taken c.loop-taken.report.journal s c.loop-taken.invariant.so_far c.advance.new.report.journal c.in-Err.ensures.front;
+      has_cause = since_earlier c.in-Err.cause (g.E.Sink.faults c.args.err.now) (g.E.Sink.faults c.loop-taken.err) (g.E.Sink.faults c.advance.new.err) so.later c.in-Err.ensures.cause;
+      begun = step_begun image bytes c.loop-taken.taken before s so.so_far;
+      journal = is_begun image bytes c.loop-taken.taken before s so.so_far c.in-Err.cause last (g.E.Sink.taken c.loop-taken.err) (g.E.Sink.taken c.advance.new.err) c.in-Err.ensures.cut;
+      lines = lines_cut image c.in-Err.cause (g.E.Sink.taken c.args.err.now) (g.E.Sink.taken c.loop-taken.err) (g.E.Sink.taken c.advance.new.err) before (appended_by (step image s)) last so.lines c.in-Err.ensures.cut;
     }
 
 pub returns-clause-come : goal.returns-clause-come
@@ -78,7 +84,7 @@ returns-clause-come g c =
     let s = state_of c.loop-taken.machine (g.M.Memory.store c.loop-taken.memory) in
     let so = c.loop-taken.invariant in
     let runs = is_spent c.args.image.now c.args.machine.now.input c.loop-taken.taken c.loop-taken.report.journal s so.so_far c.args.limit (omega arith) in
-    record { runs = runs; again = sym (ap (λ (r : Run). r.journal) runs); output = so.output; lines = so.lines }
+    record { runs = runs; again = runs; output = so.output; lines = so.lines }
 
 pub returns-in-Ok-Some-clause-started : goal.returns-in-Ok-Some-clause-started
 returns-in-Ok-Some-clause-started g c =

@@ -1,4 +1,4 @@
-use Rattle.std.proofs.Common.{ℕ, List, Option, sym, ap, subst, ◌∙◌}
+use Rattle.std.proofs.Common.{ℕ, List, Option, Err, inr, sym, ap, subst, ◌∙◌}
 use Rattle.cx_outside.specs.Told.{Rose-later}
 use Rattle.cx_tool.specs.declared.answer.Answer.{Answer}
 use Rattle.cx_tool.specs.declared.answer.Answer.TheVariants as answers
@@ -11,7 +11,7 @@ use Rattle.cx_faults.specs.Faults.{IsListFault}
 use Rattle.cx_faults.proofs.Firsts.{no_fault}
 use Rattle.cx_tool.specs.Faults.{list_fault_answer}
 use Rattle.cx_includes.specs.declared.assembled.Assembled.{Assembled}
-use Rattle.cx_tool.proofs.Stops.{wants, wants_memory, stops, only_memory, built, no_outside, handed_on, build_cause, list_cause}
+use Rattle.cx_tool.proofs.Stops.{wants, wants_memory, stops, only_memory, no_list_cause, no_build_cause, no_outside, handed_on, build_cause, list_cause}
 use Rattle.cx_tool.proofs.exec.put_image.Goals as goal
 
 pub returns-in_err-list-clause-unbuilt_comes : goal.returns-in_err-list-clause-unbuilt_comes
@@ -21,14 +21,13 @@ returns-in_err-list-clause-unbuilt_comes g c =
 
 pub returns-in_err-list-clause-built_comes : goal.returns-in_err-list-clause-built_comes
 returns-in_err-list-clause-built_comes g c =
-    λ folder list tree told is fine unit few none.
-    wants c.from_residual.result c.in_err-list.field-0.0 c.from_residual.ensures.1 (c.in_err-list.ensures.list_comes folder list told is none)
+    λ folder told faultless none.
+    wants c.from_residual.result c.in_err-list.field-0.0 c.from_residual.ensures.1 (c.in_err-list.ensures.want folder told faultless.no_fault none)
 
 pub returns-in_err-valid-clause-built_comes : goal.returns-in_err-valid-clause-built_comes
 returns-in_err-valid-clause-built_comes g c =
-    λ folder list tree told is fine unit few none.
-    let same = c.in_ok-list.ensures.list_comes folder list told is none in
-    wants c.from_residual-in_err-valid.result c.in_err-valid.field-0.0 c.from_residual-in_err-valid.ensures.1 (built list c.in_ok-list.list tree c.in_err-valid.field-0.0 c.args.unit_name.now unit few same c.in_err-valid.ensures.cause)
+    λ folder told faultless none.
+    wants c.from_residual-in_err-valid.result c.in_err-valid.field-0.0 c.from_residual-in_err-valid.ensures.1 (no_build_cause (g.F.Files.content c.args.files.now) folder c.args.unit_name.now c.in_ok-list.list c.in_err-valid.field-0.0 told c.in_ok-list.ensures.list c.in_ok-without_fault.ensures.faultless faultless c.in_err-valid.ensures.cause)
 
 pub returns-in-Ok-clause-unbuilt_comes : goal.returns-in-Ok-clause-unbuilt_comes
 returns-in-Ok-clause-unbuilt_comes g c =
@@ -80,9 +79,8 @@ returns-in_err-without_fault-clause-unbuilt_comes g c =
 
 pub returns-in_err-without_fault-clause-built_comes : goal.returns-in_err-without_fault-clause-built_comes
 returns-in_err-without_fault-clause-built_comes g c =
-    λ folder list tree told is fine unit few none.
-    let same = c.in_ok-list.ensures.list_comes folder list told is none in
-    wants c.from_residual-in_err-without_fault.result c.in_err-without_fault.field-0.0 c.from_residual-in_err-without_fault.ensures.1 (only_memory c.args.unit_name.now list c.in_ok-list.list c.in_err-without_fault.field-0.0 fine same c.in_err-without_fault.ensures.cause)
+    λ folder told faultless none.
+    wants c.from_residual-in_err-without_fault.result c.in_err-without_fault.field-0.0 c.from_residual-in_err-without_fault.ensures.1 (no_list_cause (g.F.Files.content c.args.files.now) folder c.args.unit_name.now c.in_ok-list.list c.in_err-without_fault.field-0.0 told c.in_ok-list.ensures.list faultless c.in_err-without_fault.ensures.cause)
 
 pub returns-in_err-valid-clause-list_fault_comes : goal.returns-in_err-valid-clause-list_fault_comes
 returns-in_err-valid-clause-list_fault_comes g c =
@@ -95,3 +93,8 @@ returns-in-Ok-clause-list_fault_comes g c =
     λ folder list fault told is due none.
     let same = c.in_ok-list.ensures.list_comes folder list told is (λ rose. none (Rose-later (g.F.Files.faults c.args.files.now) (g.F.Files.faults c.assembled.new.files) (g.F.Files.faults c.put.new.self) c.put.ensures.later rose)) in
     no_fault c.in_ok-list.list c.in_ok-without_fault.ensures.faultless fault (subst (λ (l : Assembled). IsListFault l fault) (sym same) due)
+
+pub returns-clause-put : goal.returns-clause-put
+returns-clause-put g c =
+    let rose = subst (λ (before : ℕ). Rose before (g.F.Files.put_faults c.put.new.self)) c.in_ok-list.ensures.puts (c.in-Err-Failed.ensures.failed_count (ap Err c.in-Err-Failed.field-0-is)) in
+    inr (rose, (c.in_ok-valid.valid, record { list = c.in_ok-list.list; listed = c.in_ok-list.ensures.list; faultless = c.in_ok-without_fault.ensures.faultless; few = c.in_ok-valid.ensures.few; compiled = c.in_ok-valid.ensures.compiled }))

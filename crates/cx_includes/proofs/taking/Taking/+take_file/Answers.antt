@@ -10,7 +10,7 @@ use Rattle.cx_includes.proofs.taking.Taking.+take_file.Goals as goal
 use Rattle.cx_includes.proofs.taking.Taking.+take_file.Goals.{in-Some+in_ok-take_file-in-Some, in-None}
 
 pub loop-next-init : goal.loop-next-init
-loop-next-init g t c = record { sound = c.requires.sound; goes = goes_same _ c.args.self.now; takes = λ folder agrees. Takes.none; stays = refl; later = omega arith }
+loop-next-init g t c = record { sound = c.requires.sound; goes = goes_same _ c.args.self.now; takes = λ folder agrees. Takes.none; stays = refl; puts = refl; later = omega arith }
 
 pub pass-requires-clause-lies : goal.pass-requires-clause-lies
 pass-requires-clause-lies g t c =
@@ -79,6 +79,7 @@ loop-next-preserved g t c =
                 let agrees_b = agrees_before folder b m c.in_ok-inner.ensures.goes.grows agrees_m in
                 next_file folder c.args.depth a b file c.loop-next.next c.part_at-part.result c.part_at-part.ensures same (c.loop-next.invariant.takes folder agrees_b) m n w.in-Some.inner opens c.in_ok-inner.ensures.sound agrees_m (w.in_ok-take_file-in-Some.ensures.takes folder agrees);
             stays = w.in_ok-take_file-in-Some.ensures.stays ∙ c.in_ok-inner.ensures.stays ∙ c.loop-next.invariant.stays;
+            puts = w.in_ok-take_file-in-Some.ensures.puts ∙ c.in_ok-inner.ensures.puts ∙ c.loop-next.invariant.puts;
             later = omega (arith, w.in_ok-take_file-in-Some.ensures.later, c.in_ok-inner.ensures.later, c.loop-next.invariant.later);
           })
       | in-None w ↦
@@ -90,6 +91,7 @@ loop-next-preserved g t c =
                 let agrees_b = agrees_before folder b m c.in_ok-inner.ensures.goes.grows agrees in
                 next_part folder c.args.depth a b file c.loop-next.next c.part_at-part.result c.part_at-part.ensures same (c.loop-next.invariant.takes folder agrees_b) m (passed folder agrees);
             stays = c.in_ok-inner.ensures.stays ∙ c.loop-next.invariant.stays;
+            puts = c.in_ok-inner.ensures.puts ∙ c.loop-next.invariant.puts;
             later = omega (arith, c.in_ok-inner.ensures.later, c.loop-next.invariant.later);
           })
     ]

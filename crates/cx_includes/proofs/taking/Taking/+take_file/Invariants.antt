@@ -15,5 +15,6 @@ invariant-loop-next g l =
       goes : Goes (g.F.Files.content l.initial.files) l.initial.self l.self;
       takes : (folder : Folder) → Agrees folder l.self → Takes folder l.depth source.file.name source.file.text (take l.next source.parts) (taken l.initial.self) (taken l.self);
       stays : g.F.Files.content l.files ≡ g.F.Files.content l.initial.files;
+      puts : g.F.Files.put_faults l.files ≡ g.F.Files.put_faults l.initial.files;
       later : g.F.Files.faults l.initial.files ≤ g.F.Files.faults l.files;
     }

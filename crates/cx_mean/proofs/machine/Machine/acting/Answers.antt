@@ -1,14 +1,11 @@
-use Rattle.cx_mean.specs.Seen.{function_of, numbers_of}
+use Rattle.cx_mean.specs.Seen.{function_of, table_of}
 use Rattle.cx_mean.specs.Tasks.{call_of}
 use Rattle.cx_mean.proofs.machine.Machine.acting.Goals as goal
 
 pub returns-in-ImplicitConstructor : goal.returns-in-ImplicitConstructor
 returns-in-ImplicitConstructor c =
-    rw c.in-ImplicitConstructor.is (c.acting_default.ensures (function_of (numbers_of c.args.self.now.program.now) c.args.f.now) (call_of c.args.c))
+    rw c.in-ImplicitConstructor.is (c.acting_default.ensures (function_of (table_of c.args.self.now.program.now) c.args.f.now) (call_of c.args.c))
 
 pub returns-in-ImplicitCopyConstructor : goal.returns-in-ImplicitCopyConstructor
 returns-in-ImplicitCopyConstructor c =
-    rw c.in-ImplicitCopyConstructor.is (c.acting_copy.ensures (function_of (numbers_of c.args.self.now.program.now) c.args.f.now) (call_of c.args.c))
-
-pub returns-in-ViolationHandler : goal.returns-in-ViolationHandler
-returns-in-ViolationHandler c = rw (c.in-ViolationHandler.is, ← c.deref-in-ViolationHandler.ensures.value) c.acting_handler.ensures
+    rw c.in-ImplicitCopyConstructor.is (c.acting_copy.ensures (function_of (table_of c.args.self.now.program.now) c.args.f.now) (call_of c.args.c))

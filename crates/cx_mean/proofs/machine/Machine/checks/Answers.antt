@@ -1,7 +1,7 @@
 use Rattle.std.proofs.Common.{ap}
 use Rattle.std.proofs.lemmas.Result.{err_from_is_err_and}
 use Rattle.cx_plain_state.proofs.Parts.{ran-want}
-use Rattle.cx_mean.specs.Seen.{numbers_of}
+use Rattle.cx_mean.specs.Seen.{table_of}
 use Rattle.cx_mean.specs.Tasks.{row_of}
 use Rattle.cx_mean.proofs.Rows.{row_counted}
 use Rattle.cx_mean.proofs.machine.Machine.checks.Goals as goal
@@ -11,6 +11,6 @@ returns-in_err-due c = let p = err_from_is_err_and c.from_residual.result c.from
 
 pub returns : goal.returns
 returns c =
-    let n = numbers_of c.args.self.now.program.now in
-    let counted = rw c.deref.ensures.value at (c.in-Some.ensures n) in
+    let n = table_of c.args.self.now.program.now in
+    let counted = rw c.deref.ensures.value at c.in-Some.ensures in
     rw (row_counted (row_of n c.args.row) c.in_ok-due.ensures.due counted, ← c.in_ok-due.ensures.due) c.doing.ensures

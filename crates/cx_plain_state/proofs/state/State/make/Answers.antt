@@ -1,12 +1,6 @@
-use Rattle.std.proofs.Common.{◌≡◌, suc, ◌∷◌, map, replicate, None, refl, ap, ◌∙◌, arith}
-use Rattle.cx_core.specs.Outcome.{make}
-use Rattle.cx_plain_state.specs.Seen.{state_of, object_of}
+use Rattle.std.proofs.lemmas.Result.{err_from_is_err_and}
+use Rattle.cx_plain_state.proofs.Parts.{ran}
 use Rattle.cx_plain_state.proofs.state.State.make.Goals as goal
 
-pub returns : goal.returns
-unfolding make state_of
-returns c =
-    let e : map object_of c.insert.new.self.items ≡ record { number = c.args.self.now.next; leaves = replicate c.args.leaves None } ∷ map object_of c.args.self.now.objects.items =
-    ap (map object_of) c.in_ok-insert.ensures.items ∙ ap (λ leaves. record { number = c.args.self.now.next; leaves = leaves } ∷ map object_of c.args.self.now.objects.items) c.in_ok-leaves.ensures in
-    let n : c.in-Some.next ≡ suc c.args.self.now.next = omega arith in
-    record { comes = rw (e, n) refl }
+pub returns-in_err-spend : goal.returns-in_err-spend
+returns-in_err-spend c = let p = err_from_is_err_and c.from_residual.result c.from_residual.ensures.1 in rw (p.1, p.2) (search (ran, c.in_err-spend.ensures) depth 12)
