@@ -28,7 +28,7 @@ LUA = "for loop = 1, LOOPS do local k = 0 while k < TURNS do k = k + 1 end end"
 def build(folder):
     (folder / "empty.cpp").write_text("int main(){ }\n")
     words = ["exec", "-o", str(folder / "empty.img"), str(folder / "empty.cpp")]
-    return built(folder, copy_crates(folder, "cx_tool", "must-fail"), "cx_tool", *words)
+    return built(folder, copy_crates(folder, "cx_program", "must-fail"), "cx_program", *words)
 
 
 def unit_seconds(folder, program, size):
