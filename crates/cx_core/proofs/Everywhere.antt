@@ -471,8 +471,9 @@ module _ (K : (A : Type 0) → Does A → Type 0) (c : IsClosed K) where
 
     pub temporary_of_call_of : (t : ℕ) (p : Value) (arguments : Does (List Value)) → K (List Value) arguments → K Value (temporary_of_call program calls t p arguments)
     temporary_of_call_of t p arguments h = then_of _ _
-        (object_of _ (class t) _ keep_temporary_of (λ place. seq_of _ _ (call_of_of (by_pointer p) arguments (Some (address place)) h) (gives_of _)))
-        (λ n. gives_of _)
+        (object_of _ (class t) (λ place. call_of program calls (by_pointer p) arguments (Some (address place)) >> gives nothing) keep_temporary_of
+        (λ place. seq_of _ _ (call_of_of (by_pointer p) arguments (Some (address place)) h) (gives_of nothing)))
+        (λ n. gives_of (address (record { object = n; leaf = 0 })))
 
     result_stored_of : (result : Option Value) (v : Value) → K Value (result_stored program calls result v)
     result_stored_of None v = gives_of _
