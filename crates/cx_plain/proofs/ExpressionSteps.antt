@@ -4,8 +4,8 @@ use Rattle.std.specs.Prelude.{slice_get}
 use Rattle.cx_core.specs.Tree as tree
 use Rattle.cx_core.specs.Tree.{PointedResult, class, void_result, scalar_result, reference_result, Expr, Operand, operand, Init, Args, no_more, by_reference, by_value}
 use Rattle.cx_core.specs.Program.{Program, ResultKind, void, scalar_value, scalar_object, class_object, reference, exit_status, Function}
-use Rattle.cx_core.specs.Store.{Value, address}
-use Rattle.cx_core.specs.Outcome.{Does, Nothing, whole, skip, either, ◌>>=◌, ◌>>◌, gives, throws, ends, some, make, end_lifetime, keep_temporary, undone_by}
+use Rattle.cx_core.specs.Store.{Address, Value, address}
+use Rattle.cx_core.specs.Outcome.{Does, Nothing, skip, either, ◌>>=◌, ◌>>◌, gives, throws, ends, some, make, end_lifetime, keep_temporary, undone_by}
 use Rattle.cx_core.specs.Leaving.{leaves_of_type, object}
 use Rattle.cx_core.specs.Check.{truth}
 use Rattle.cx_core.specs.Calls.{Callee, by_name, by_pointer, call_into, call_with_object, call_of, call_giving, call_through_giving, temporary_of_call}
@@ -49,7 +49,7 @@ module _ (program : Program) where
       ∙ undone_flow (initialised (record { object = n; leaf = 0 })) (end_lifetime n) _ _
       ∙ flow (call_of program (at program level) (by_pointer p) (args program (at program level) a) (Some (object_place n))) _ _ _))
     where
-      initialised : Rattle.cx_core.specs.Store.Address → Does Nothing
+      initialised : Address → Does Nothing
       initialised place = call_of program (at program level) (by_pointer p) (args program (at program level) a) (Some (address place)) >> skip
 
   call_steps : (level : Level) (kind : ResultKind) (f : ℕ) (a : Args) (k : Rest)
