@@ -69,7 +69,10 @@ pub fn pop_punct(stack: &mut Vec<Value>) -> PlacedPunct
 {
     let token = pop_mark(stack);
     match token.mark {
-        Mark::Punct(punct) => PlacedPunct { punct, at: token.at },
+        Mark::Punct(punct) => PlacedPunct {
+            punct,
+            at: token.at,
+        },
         _ => unreachable!(),
     }
 }
