@@ -1,6 +1,6 @@
 //! Values put on the stack and taken off it, one function a sort.
 
-ghost use Rattle.std.specs.Prelude.{◌≡◌, ◌∷◌, OnOk};
+ghost use Rattle.std.specs.Prelude.{◌≡◌, ◌≢◌, [], ◌∷◌, OnOk};
 ghost use Rattle.cx_values.specs.View.{value_of, values_of};
 
 mod expressions;
@@ -25,6 +25,18 @@ pub use statements::{
 use std::alloc::AllocError;
 pub use tokens::{pop_class, pop_mark, pop_name, pop_punct, pop_word};
 pub use types::{pop_base, pop_flag, pop_no_flag, pop_pointers, pop_type};
+
+/// Takes the value on top off the stack, if there is one; this project's own.
+#[tactic(auto, unfolding(crate::specs::View::values_of))]
+fn pop_value(stack: &mut Vec<Value>) -> Value
+    requires { values_of stack.old.items ≢ [] }
+    ensures { values_of stack.old.items ≡ value_of result ∷ values_of stack.new.items }
+{
+    match stack.pop() {
+        Some(value) => value,
+        None => unreachable!(),
+    }
+}
 
 /// Puts a value on the stack. It fails for want of memory alone; this project's own.
 #[tactic(auto, unfolding(crate::specs::View::values_of))]

@@ -6,6 +6,7 @@ ghost use Rattle.cx_values.specs.Sorts.{Top, a_list, a_maybe, an_expression, arg
 ghost use Rattle.cx_values.specs.Values.{args_val, expr_val, list_val, maybe_val};
 ghost use Rattle.cx_values.specs.View.{values_of};
 
+use crate::pop::pop_value;
 use crate::value::Value;
 use cx_syntax::tree::{Args, Expr, Several};
 
@@ -15,8 +16,8 @@ pub fn pop_expression(stack: &mut Vec<Value>) -> Expr
     requires { Top an_expression (values_of stack.old.items) }
     ensures { values_of stack.old.items ≡ expr_val (expr_of result) ∷ values_of stack.new.items }
 {
-    match stack.pop() {
-        Some(Value::Expression(value)) => value,
+    match pop_value(stack) {
+        Value::Expression(value) => value,
         _ => unreachable!(),
     }
 }
@@ -27,8 +28,8 @@ pub fn pop_arguments(stack: &mut Vec<Value>) -> Args
     requires { Top arguments (values_of stack.old.items) }
     ensures { values_of stack.old.items ≡ args_val (args_of result) ∷ values_of stack.new.items }
 {
-    match stack.pop() {
-        Some(Value::Arguments(value)) => value,
+    match pop_value(stack) {
+        Value::Arguments(value) => value,
         _ => unreachable!(),
     }
 }
@@ -39,8 +40,8 @@ pub fn pop_list(stack: &mut Vec<Value>) -> Several
     requires { Top a_list (values_of stack.old.items) }
     ensures { values_of stack.old.items ≡ list_val (several_of result) ∷ values_of stack.new.items }
 {
-    match stack.pop() {
-        Some(Value::List(value)) => value,
+    match pop_value(stack) {
+        Value::List(value) => value,
         _ => unreachable!(),
     }
 }
@@ -51,8 +52,8 @@ pub fn pop_maybe(stack: &mut Vec<Value>) -> Option<Expr>
     requires { Top a_maybe (values_of stack.old.items) }
     ensures { values_of stack.old.items ≡ maybe_val (option_map expr_of result) ∷ values_of stack.new.items }
 {
-    match stack.pop() {
-        Some(Value::Maybe(value)) => value,
+    match pop_value(stack) {
+        Value::Maybe(value) => value,
         _ => unreachable!(),
     }
 }

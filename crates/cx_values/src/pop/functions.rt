@@ -6,6 +6,7 @@ ghost use Rattle.cx_values.specs.Sorts.{Top, a_param, a_row, a_spec, a_suffix, a
 ghost use Rattle.cx_values.specs.Values.{name_val, param_val, params_val, row_val, spec_val, specs_val, suffix_val, tail_val};
 ghost use Rattle.cx_values.specs.View.{values_of};
 
+use crate::pop::pop_value;
 use crate::value::Value;
 use cx_syntax::tree::{OptionalName, Param, ParamRow, Params, Spec, Suffix, Tail};
 
@@ -15,8 +16,8 @@ pub fn pop_optional_name(stack: &mut Vec<Value>) -> OptionalName
     requires { Top an_optional_name (values_of stack.old.items) }
     ensures { values_of stack.old.items ≡ name_val (optional_name_of result) ∷ values_of stack.new.items }
 {
-    match stack.pop() {
-        Some(Value::Name(value)) => value,
+    match pop_value(stack) {
+        Value::Name(value) => value,
         _ => unreachable!(),
     }
 }
@@ -27,8 +28,8 @@ pub fn pop_param(stack: &mut Vec<Value>) -> Param
     requires { Top a_param (values_of stack.old.items) }
     ensures { values_of stack.old.items ≡ param_val (param_of result) ∷ values_of stack.new.items }
 {
-    match stack.pop() {
-        Some(Value::Param(value)) => value,
+    match pop_value(stack) {
+        Value::Param(value) => value,
         _ => unreachable!(),
     }
 }
@@ -39,8 +40,8 @@ pub fn pop_row(stack: &mut Vec<Value>) -> ParamRow
     requires { Top a_row (values_of stack.old.items) }
     ensures { values_of stack.old.items ≡ row_val (row_of result) ∷ values_of stack.new.items }
 {
-    match stack.pop() {
-        Some(Value::ParamRow(value)) => value,
+    match pop_value(stack) {
+        Value::ParamRow(value) => value,
         _ => unreachable!(),
     }
 }
@@ -51,8 +52,8 @@ pub fn pop_params(stack: &mut Vec<Value>) -> Params
     requires { Top params (values_of stack.old.items) }
     ensures { values_of stack.old.items ≡ params_val (params_of result) ∷ values_of stack.new.items }
 {
-    match stack.pop() {
-        Some(Value::Params(value)) => value,
+    match pop_value(stack) {
+        Value::Params(value) => value,
         _ => unreachable!(),
     }
 }
@@ -63,8 +64,8 @@ pub fn pop_spec(stack: &mut Vec<Value>) -> Spec
     requires { Top a_spec (values_of stack.old.items) }
     ensures { values_of stack.old.items ≡ spec_val (spec_of result) ∷ values_of stack.new.items }
 {
-    match stack.pop() {
-        Some(Value::Spec(value)) => value,
+    match pop_value(stack) {
+        Value::Spec(value) => value,
         _ => unreachable!(),
     }
 }
@@ -75,8 +76,8 @@ pub fn pop_specs(stack: &mut Vec<Value>) -> Vec<Spec>
     requires { Top specs (values_of stack.old.items) }
     ensures { values_of stack.old.items ≡ specs_val (specs_of result.items) ∷ values_of stack.new.items }
 {
-    match stack.pop() {
-        Some(Value::Specs(value)) => value,
+    match pop_value(stack) {
+        Value::Specs(value) => value,
         _ => unreachable!(),
     }
 }
@@ -87,8 +88,8 @@ pub fn pop_suffix(stack: &mut Vec<Value>) -> Suffix
     requires { Top a_suffix (values_of stack.old.items) }
     ensures { values_of stack.old.items ≡ suffix_val (suffix_of result) ∷ values_of stack.new.items }
 {
-    match stack.pop() {
-        Some(Value::Suffix(value)) => value,
+    match pop_value(stack) {
+        Value::Suffix(value) => value,
         _ => unreachable!(),
     }
 }
@@ -99,8 +100,8 @@ pub fn pop_tail(stack: &mut Vec<Value>) -> Tail
     requires { Top a_tail (values_of stack.old.items) }
     ensures { values_of stack.old.items ≡ tail_val (tail_of result) ∷ values_of stack.new.items }
 {
-    match stack.pop() {
-        Some(Value::Tail(value)) => value,
+    match pop_value(stack) {
+        Value::Tail(value) => value,
         _ => unreachable!(),
     }
 }

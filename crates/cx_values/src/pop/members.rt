@@ -6,6 +6,7 @@ ghost use Rattle.cx_values.specs.Sorts.{Top, a_making, a_member, a_member_init, 
 ghost use Rattle.cx_values.specs.Values.{init_row_val, inits_val, making_val, member_init_val, member_val, members_val};
 ghost use Rattle.cx_values.specs.View.{values_of};
 
+use crate::pop::pop_value;
 use crate::value::Value;
 use cx_syntax::tree::{InitRow, Inits, Making, Member, MemberInit};
 
@@ -15,8 +16,8 @@ pub fn pop_making(stack: &mut Vec<Value>) -> Making
     requires { Top a_making (values_of stack.old.items) }
     ensures { values_of stack.old.items ≡ making_val (making_of result) ∷ values_of stack.new.items }
 {
-    match stack.pop() {
-        Some(Value::Making(value)) => value,
+    match pop_value(stack) {
+        Value::Making(value) => value,
         _ => unreachable!(),
     }
 }
@@ -27,8 +28,8 @@ pub fn pop_member_init(stack: &mut Vec<Value>) -> MemberInit
     requires { Top a_member_init (values_of stack.old.items) }
     ensures { values_of stack.old.items ≡ member_init_val (member_init_of result) ∷ values_of stack.new.items }
 {
-    match stack.pop() {
-        Some(Value::MemberInit(value)) => value,
+    match pop_value(stack) {
+        Value::MemberInit(value) => value,
         _ => unreachable!(),
     }
 }
@@ -39,8 +40,8 @@ pub fn pop_init_row(stack: &mut Vec<Value>) -> InitRow
     requires { Top an_init_row (values_of stack.old.items) }
     ensures { values_of stack.old.items ≡ init_row_val (init_row_of result) ∷ values_of stack.new.items }
 {
-    match stack.pop() {
-        Some(Value::InitRow(value)) => value,
+    match pop_value(stack) {
+        Value::InitRow(value) => value,
         _ => unreachable!(),
     }
 }
@@ -51,8 +52,8 @@ pub fn pop_inits(stack: &mut Vec<Value>) -> Inits
     requires { Top inits (values_of stack.old.items) }
     ensures { values_of stack.old.items ≡ inits_val (inits_of result) ∷ values_of stack.new.items }
 {
-    match stack.pop() {
-        Some(Value::Inits(value)) => value,
+    match pop_value(stack) {
+        Value::Inits(value) => value,
         _ => unreachable!(),
     }
 }
@@ -63,8 +64,8 @@ pub fn pop_member(stack: &mut Vec<Value>) -> Member
     requires { Top a_member (values_of stack.old.items) }
     ensures { values_of stack.old.items ≡ member_val (member_of result) ∷ values_of stack.new.items }
 {
-    match stack.pop() {
-        Some(Value::Member(value)) => value,
+    match pop_value(stack) {
+        Value::Member(value) => value,
         _ => unreachable!(),
     }
 }
@@ -75,8 +76,8 @@ pub fn pop_members(stack: &mut Vec<Value>) -> Vec<Member>
     requires { Top members (values_of stack.old.items) }
     ensures { values_of stack.old.items ≡ members_val (members_of result.items) ∷ values_of stack.new.items }
 {
-    match stack.pop() {
-        Some(Value::Members(value)) => value,
+    match pop_value(stack) {
+        Value::Members(value) => value,
         _ => unreachable!(),
     }
 }

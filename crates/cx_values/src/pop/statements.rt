@@ -6,6 +6,7 @@ ghost use Rattle.cx_values.specs.Sorts.{Top, a_block, a_catching, a_handler, a_l
 ghost use Rattle.cx_values.specs.Values.{block_val, catching_val, handler_val, handlers_val, init_val, local_val, stmt_val, stmts_val};
 ghost use Rattle.cx_values.specs.View.{values_of};
 
+use crate::pop::pop_value;
 use crate::value::Value;
 use cx_syntax::tree::{Block, Catching, Handler, Handlers, Init, Local, Stmt};
 
@@ -15,8 +16,8 @@ pub fn pop_init(stack: &mut Vec<Value>) -> Init
     requires { Top an_init (values_of stack.old.items) }
     ensures { values_of stack.old.items ≡ init_val (init_of result) ∷ values_of stack.new.items }
 {
-    match stack.pop() {
-        Some(Value::Init(value)) => value,
+    match pop_value(stack) {
+        Value::Init(value) => value,
         _ => unreachable!(),
     }
 }
@@ -27,8 +28,8 @@ pub fn pop_local(stack: &mut Vec<Value>) -> Local
     requires { Top a_local (values_of stack.old.items) }
     ensures { values_of stack.old.items ≡ local_val (local_of result) ∷ values_of stack.new.items }
 {
-    match stack.pop() {
-        Some(Value::Local(value)) => value,
+    match pop_value(stack) {
+        Value::Local(value) => value,
         _ => unreachable!(),
     }
 }
@@ -39,8 +40,8 @@ pub fn pop_block(stack: &mut Vec<Value>) -> Block
     requires { Top a_block (values_of stack.old.items) }
     ensures { values_of stack.old.items ≡ block_val (block_of result) ∷ values_of stack.new.items }
 {
-    match stack.pop() {
-        Some(Value::Block(value)) => value,
+    match pop_value(stack) {
+        Value::Block(value) => value,
         _ => unreachable!(),
     }
 }
@@ -51,8 +52,8 @@ pub fn pop_statement(stack: &mut Vec<Value>) -> Stmt
     requires { Top a_statement (values_of stack.old.items) }
     ensures { values_of stack.old.items ≡ stmt_val (stmt_of result) ∷ values_of stack.new.items }
 {
-    match stack.pop() {
-        Some(Value::Statement(value)) => value,
+    match pop_value(stack) {
+        Value::Statement(value) => value,
         _ => unreachable!(),
     }
 }
@@ -63,8 +64,8 @@ pub fn pop_statements(stack: &mut Vec<Value>) -> Vec<Stmt>
     requires { Top statements (values_of stack.old.items) }
     ensures { values_of stack.old.items ≡ stmts_val (stmts_of result.items) ∷ values_of stack.new.items }
 {
-    match stack.pop() {
-        Some(Value::Statements(value)) => value,
+    match pop_value(stack) {
+        Value::Statements(value) => value,
         _ => unreachable!(),
     }
 }
@@ -75,8 +76,8 @@ pub fn pop_handler(stack: &mut Vec<Value>) -> Handler
     requires { Top a_handler (values_of stack.old.items) }
     ensures { values_of stack.old.items ≡ handler_val (handler_of result) ∷ values_of stack.new.items }
 {
-    match stack.pop() {
-        Some(Value::Handler(value)) => value,
+    match pop_value(stack) {
+        Value::Handler(value) => value,
         _ => unreachable!(),
     }
 }
@@ -87,8 +88,8 @@ pub fn pop_handlers(stack: &mut Vec<Value>) -> Handlers
     requires { Top handlers (values_of stack.old.items) }
     ensures { values_of stack.old.items ≡ handlers_val (handlers_of result) ∷ values_of stack.new.items }
 {
-    match stack.pop() {
-        Some(Value::Handlers(value)) => value,
+    match pop_value(stack) {
+        Value::Handlers(value) => value,
         _ => unreachable!(),
     }
 }
@@ -99,8 +100,8 @@ pub fn pop_catching(stack: &mut Vec<Value>) -> Catching
     requires { Top a_catching (values_of stack.old.items) }
     ensures { values_of stack.old.items ≡ catching_val (catching_of result) ∷ values_of stack.new.items }
 {
-    match stack.pop() {
-        Some(Value::Catching(value)) => value,
+    match pop_value(stack) {
+        Value::Catching(value) => value,
         _ => unreachable!(),
     }
 }

@@ -6,6 +6,7 @@ ghost use Rattle.cx_values.specs.Sorts.{Top, a_class, a_mark, a_name, a_punct, a
 ghost use Rattle.cx_values.specs.Values.{mark_val};
 ghost use Rattle.cx_values.specs.View.{values_of};
 
+use crate::pop::pop_value;
 use crate::value::{PlacedMark, PlacedName, PlacedPunct, PlacedWord, Value};
 use cx_syntax::Mark;
 
@@ -15,8 +16,8 @@ pub fn pop_mark(stack: &mut Vec<Value>) -> PlacedMark
     requires { Top a_mark (values_of stack.old.items) }
     ensures { values_of stack.old.items ≡ mark_val result.mark result.at ∷ values_of stack.new.items }
 {
-    match stack.pop() {
-        Some(Value::Mark(value)) => value,
+    match pop_value(stack) {
+        Value::Mark(value) => value,
         _ => unreachable!(),
     }
 }
@@ -27,15 +28,9 @@ pub fn pop_name(stack: &mut Vec<Value>) -> PlacedName
     requires { Top a_name (values_of stack.old.items) }
     ensures { values_of stack.old.items ≡ mark_val (M.Name result.name) result.at ∷ values_of stack.new.items }
 {
-    match stack.pop() {
-        Some(
-            Value::Mark(
-                PlacedMark {
-                    mark: Mark::Name(name),
-                    at,
-                },
-            ),
-        ) => PlacedName { name, at },
+    let token = pop_mark(stack);
+    match token.mark {
+        Mark::Name(name) => PlacedName { name, at: token.at },
         _ => unreachable!(),
     }
 }
@@ -46,15 +41,9 @@ pub fn pop_class(stack: &mut Vec<Value>) -> PlacedName
     requires { Top a_class (values_of stack.old.items) }
     ensures { values_of stack.old.items ≡ mark_val (M.Class result.name) result.at ∷ values_of stack.new.items }
 {
-    match stack.pop() {
-        Some(
-            Value::Mark(
-                PlacedMark {
-                    mark: Mark::Class(name),
-                    at,
-                },
-            ),
-        ) => PlacedName { name, at },
+    let token = pop_mark(stack);
+    match token.mark {
+        Mark::Class(name) => PlacedName { name, at: token.at },
         _ => unreachable!(),
     }
 }
@@ -65,15 +54,9 @@ pub fn pop_word(stack: &mut Vec<Value>) -> PlacedWord
     requires { Top a_word (values_of stack.old.items) }
     ensures { values_of stack.old.items ≡ mark_val (M.Word result.word) result.at ∷ values_of stack.new.items }
 {
-    match stack.pop() {
-        Some(
-            Value::Mark(
-                PlacedMark {
-                    mark: Mark::Word(word),
-                    at,
-                },
-            ),
-        ) => PlacedWord { word, at },
+    let token = pop_mark(stack);
+    match token.mark {
+        Mark::Word(word) => PlacedWord { word, at: token.at },
         _ => unreachable!(),
     }
 }
@@ -84,15 +67,12 @@ pub fn pop_punct(stack: &mut Vec<Value>) -> PlacedPunct
     requires { Top a_punct (values_of stack.old.items) }
     ensures { values_of stack.old.items ≡ mark_val (M.Punct result.punct) result.at ∷ values_of stack.new.items }
 {
-    match stack.pop() {
-        Some(
-            Value::Mark(
-                PlacedMark {
-                    mark: Mark::Punct(punct),
-                    at,
-                },
-            ),
-        ) => PlacedPunct { punct, at },
+    let token = pop_mark(stack);
+    match token.mark {
+        Mark::Punct(punct) => PlacedPunct {
+            punct,
+            at: token.at,
+        },
         _ => unreachable!(),
     }
 }
