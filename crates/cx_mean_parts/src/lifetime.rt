@@ -1,0 +1,63 @@
+//! How many leaves an object has, and the end of its lifetime.
+ghost use Rattle.std.specs.Prelude.{[], ◌∷◌};
+ghost use Rattle.std.specs.Option.{option_map};
+ghost use Rattle.cx_core.specs.Outcome.{end_lifetime};
+ghost use Rattle.cx_plain.specs.Step.{doing, step_call_through, step_call_to, step_given, step_thrown, no_calls, keeps, bind_object, step_task};
+ghost use Rattle.cx_plain_state.specs.Ran.{Ran, itself, unit_of, values_of};
+ghost use Rattle.cx_plain_state.specs.Seen.{address_of, state_of, value_of, exception_of, living_of, type_of};
+ghost use Rattle.cx_mean_parts.specs.Seen.{table_of, program_of, args_of};
+ghost use Rattle.cx_mean_parts.specs.Tasks.{callee_of, level_of, keeper_of, object_task_of};
+ghost use Rattle.cx_mean_parts.specs.Frames.{frames_of, given_of, argument_frame_of, object_frame_of};
+ghost use Rattle.cx_core.specs.Calls.{function_held};
+ghost use Rattle.cx_core.specs.View.{pointed_result, init_of};
+ghost use Rattle.cx_mean_parts.specs.Parts.{result_ended, ended_by, made_at, object_kept, field_kept, value_written, place_bound, exception_thrown};
+ghost use Rattle.cx_mean_parts.specs.Steps.{Steps};
+ghost use Rattle.cx_plain.specs.Task as tasks;
+ghost use Rattle.cx_core.specs.Leaving.{leaves_of_type};
+ghost use Rattle.cx_core.specs.Tree as trees;
+
+use crate::machine::Machine;
+use crate::waiting::Next;
+use cx_code::Kind;
+use cx_plain_state::{Exception, Halt, State, undefined, ObjectType};
+
+/// The lifetime of an object ends.
+#[tactic(auto, unfolding(cx_core::specs::Outcome::either))]
+pub fn end_lifetime(state: &mut State<'_>, object: u64) -> Result<(), Halt>
+    ensures { Ran unit_of (end_lifetime object (state_of state.old)) result (state_of state.new) }
+{
+    state.spend()?;
+    state.remove(object);
+    Ok(())
+}
+
+#[tactic(auto, unfolding(cx_core::specs::Outcome::either, cx_core::specs::Outcome::gives, cx_core::specs::Outcome::ends, cx_core::specs::Outcome::throws))]
+impl<'p> Machine<'p> {
+    /// The lifetime of an object ends, and an exception flies on.
+    pub fn end_thrown(
+        &self,
+        state: &mut State<'p>,
+        object: u64,
+        e: Exception,
+    ) -> Result<Next<'p>, Halt>
+        ensures { let p = self.now.program.now in Steps p (ended_by object (exception_of e)) result state.old state.new }
+    {
+        end_lifetime(state, object)?;
+        Err(Halt::Thrown(e))
+    }
+
+    /// How many leaves an object of a type has.
+    pub fn leaves_of(&self, state: &State<'p>, of: ObjectType) -> Result<usize, Halt>
+        ensures { Ran itself (leaves_of_type (program_of self.now.program.now) no_calls (type_of of) (state_of state.now)) result (state_of state.now) }
+    {
+        match of {
+            ObjectType::Scalar(_) => Ok(1),
+            ObjectType::Pointer(_) => Ok(1),
+            ObjectType::FunctionPointer(_) => Ok(1),
+            ObjectType::Class(class) => match self.class_at(class) {
+                Some(definition) => Ok(definition.definition.leaves.items().len()),
+                None => Err(undefined(Kind::Mixed)),
+            },
+        }
+    }
+}
