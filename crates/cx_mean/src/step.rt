@@ -12,12 +12,19 @@ use cx_mean_objects::{object_given, object_task, object_thrown};
 use cx_mean_parts::machine::Machine;
 use cx_mean_parts::task::{Call, Check, Task};
 use cx_mean_parts::waiting::{Given, Next, Waiting};
-use cx_mean_statements::{following_given, leaving_given, leaving_thrown, statement_given, statement_task, statement_thrown};
+use cx_mean_statements::{
+    following_given, leaving_given, leaving_thrown, statement_given, statement_task,
+    statement_thrown,
+};
 use cx_plain_state::{Exception, Halt, State};
 
 /// One step of a task.
 #[tactic(auto, unfolding(cx_core::specs::Outcome::either, cx_core::specs::Outcome::gives, cx_core::specs::Outcome::ends, cx_core::specs::Outcome::throws))]
-pub(crate) fn task_step<'p>(machine: &Machine<'p>, state: &mut State<'p>, task: Task<'p>) -> Result<Next<'p>, Halt>
+pub(crate) fn task_step<'p>(
+    machine: &Machine<'p>,
+    state: &mut State<'p>,
+    task: Task<'p>,
+) -> Result<Next<'p>, Halt>
     ensures { let p = machine.now.program.now in let n = table_of p in Steps p (step_task (program_of p) (task_of n task.entry)) result state.old state.new }
 {
     match task {

@@ -79,13 +79,14 @@ pub(crate) fn acting<'p>(
 {
     match &f.body {
         Body::Function(b) => acting_function(machine, state, level, f, b, c, frames),
-        Body::Constructor(fields, b) => acting_constructor(machine, 
-            state, level, f, fields, b, c, frames,
+        Body::Constructor(fields, b) => acting_constructor(
+            machine, state, level, f, fields, b, c, frames,
         ),
         Body::Destructor(class, b) => destructor(machine, state, level, f, *class, b, frames),
         Body::ImplicitConstructor(class) => acting_default(machine, state, level, *class, frames),
         Body::ImplicitCopyConstructor(class) => acting_copy(machine, state, level, *class, frames),
-        Body::ImplicitDestructor(class) => destructor(machine, 
+        Body::ImplicitDestructor(class) => destructor(
+            machine,
             state,
             level,
             f,
@@ -98,7 +99,11 @@ pub(crate) fn acting<'p>(
 
 /// The edge of a function inside other frames, which no exception passes if it is `noexcept`.
 #[tactic(auto, unfolding(cx_core::specs::Outcome::either, cx_core::specs::Outcome::gives, cx_core::specs::Outcome::ends, cx_core::specs::Outcome::throws))]
-fn edged<'p>(machine: &Machine<'p>, frames: Vec<Waiting<'p>>, f: &Function) -> Result<Vec<Waiting<'p>>, AllocError>
+fn edged<'p>(
+    machine: &Machine<'p>,
+    frames: Vec<Waiting<'p>>,
+    f: &Function,
+) -> Result<Vec<Waiting<'p>>, AllocError>
     ensures { let n = table_of machine.now.program.now in IfOk result (λ all. frames_of n all.items ≡ tasks.edge_if f.now.noexcept ∷ frames_of n frames.entry.items) }
 {
     machine.framed(frames, Waiting::Leaving(LeavingFrame::EdgeIf(f.noexcept)))
@@ -235,12 +240,7 @@ fn copy_under<'p>(
     let to = parameter_place(state, 0)?;
     let source = parameter_place(state, 1)?;
     let frames = implicit_frames(machine, constructing, frames)?;
-    let task = ObjectTask::CopyingMembers(
-        level,
-        definition.definition.fields.items(),
-        source,
-        to,
-    );
+    let task = ObjectTask::CopyingMembers(level, definition.definition.fields.items(), source, to);
     machine.under_all(state, Task::Object(task), frames)
 }
 

@@ -45,7 +45,11 @@ pub(crate) fn function_with<'p>(
 
 /// The class with a number.
 #[tactic(auto, unfolding(cx_mean_parts::specs::Seen::program_of, cx_core::specs::Outcome::gives, cx_core::specs::Outcome::ends))]
-pub(crate) fn class_with<'p>(machine: &Machine<'p>, state: &State<'p>, class: u32) -> Result<&'p Class, Halt>
+pub(crate) fn class_with<'p>(
+    machine: &Machine<'p>,
+    state: &State<'p>,
+    class: u32,
+) -> Result<&'p Class, Halt>
     ensures { let p = machine.now.program.now in Ran (λ c. class_of c.now) (class_at (program_of p) no_calls class (state_of state.now)) result (state_of state.now) }
 {
     match machine.class_at(class) {
@@ -70,7 +74,8 @@ pub(crate) fn is_implicit<'p>(machine: &Machine<'p>, function: u32) -> bool
 fn checks_by_caller<'p>(machine: &Machine<'p>, unit: u32, function: u32) -> Option<&'p CallerChecks>
     ensures { let p = machine.now.program.now in or_no_checks (program_of p) no_calls (option_map (λ c. caller_of (table_of p) c.now) result) ≡ checks_at (program_of p) no_calls function (slice_get (program_of p).callers unit) }
 {
-    machine.program
+    machine
+        .program
         .callers
         .get(unit as usize)?
         .get(function as usize)
@@ -78,7 +83,11 @@ fn checks_by_caller<'p>(machine: &Machine<'p>, unit: u32, function: u32) -> Opti
 
 /// What the caller checks before a body.
 #[tactic(auto, unfolding(cx_mean_parts::specs::Seen::program_of, cx_core::specs::Outcome::gives, cx_core::specs::Outcome::ends))]
-pub(crate) fn caller_preconditions<'p>(machine: &Machine<'p>, unit: u32, function: u32) -> &'p [Specifier]
+pub(crate) fn caller_preconditions<'p>(
+    machine: &Machine<'p>,
+    unit: u32,
+    function: u32,
+) -> &'p [Specifier]
     ensures { let p = machine.now.program.now in checks_of (table_of p) result.now ≡ (caller_checks (program_of p) no_calls unit function).preconditions }
 {
     match checks_by_caller(machine, unit, function) {
@@ -89,7 +98,11 @@ pub(crate) fn caller_preconditions<'p>(machine: &Machine<'p>, unit: u32, functio
 
 /// What the caller checks after a body.
 #[tactic(auto, unfolding(cx_mean_parts::specs::Seen::program_of, cx_core::specs::Outcome::gives, cx_core::specs::Outcome::ends))]
-pub(crate) fn caller_postconditions<'p>(machine: &Machine<'p>, unit: u32, function: u32) -> &'p [Specifier]
+pub(crate) fn caller_postconditions<'p>(
+    machine: &Machine<'p>,
+    unit: u32,
+    function: u32,
+) -> &'p [Specifier]
     ensures { let p = machine.now.program.now in checks_of (table_of p) result.now ≡ (caller_checks (program_of p) no_calls unit function).postconditions }
 {
     match checks_by_caller(machine, unit, function) {

@@ -22,7 +22,9 @@ use cx_mean_parts::program::Function;
 use cx_mean_parts::task::{Call, CallTask, Level, ObjectTask, Task};
 use cx_mean_parts::values::valued;
 use cx_mean_parts::waiting::{CallFrame, Completion, Given, LeavingFrame, Left, Next, Waiting};
-use cx_plain_state::{Address, Answer, Event, Exception, Frame, Halt, Report, State, Value, undefined};
+use cx_plain_state::{
+    Address, Answer, Event, Exception, Frame, Halt, Report, State, Value, undefined,
+};
 use std::alloc::AllocError;
 use std::mem;
 
@@ -66,7 +68,11 @@ fn destruction<'p>(state: &mut State<'p>, name: &'p [u8], a: Address) -> Result<
 
 /// The result of the active call is set, which a postcondition names. The frame that goes back is given.
 #[tactic(auto, unfolding(cx_plain_state::specs::Seen::state_of))]
-fn enter_result<'p>(machine: &Machine<'p>, state: &mut State<'p>, v: Value<'p>) -> Result<Waiting<'p>, AllocError>
+fn enter_result<'p>(
+    machine: &Machine<'p>,
+    state: &mut State<'p>,
+    v: Value<'p>,
+) -> Result<Waiting<'p>, AllocError>
     ensures frame { IfOk result (λ w. waiting_of (table_of machine.now.program.now) w ≡ tasks.within (state_of state.old).frame) }
     ensures entered { OnOk result (state_of state.new ≡ record (state_of state.old) { frame = record ((state_of state.old).frame) { result = Some (value_of v.entry) } }) }
 {
@@ -171,15 +177,15 @@ pub fn call_given<'p>(
     ensures { let p = machine.now.program.now in let n = table_of p in Steps p (step_given (program_of p) (call_frame_of n frame.entry) (given_of given.entry)) result state.old state.new }
 {
     match (frame, given) {
-        (CallFrame::Verdict(level, assertion, semantic), Given::Truth(holds)) => verdict(machine, 
-            state, level, assertion, semantic, holds,
+        (CallFrame::Verdict(level, assertion, semantic), Given::Truth(holds)) => verdict(
+            machine, state, level, assertion, semantic, holds,
         ),
         (CallFrame::Terminate, _) => Err(Halt::Over(Answer::Ended(Ending::ContractTerminated))),
         (CallFrame::ValueGiven(kind), Given::Completion(completion)) => valued(value_given(
             state, kind, completion,
         )),
-        (CallFrame::Postconditions(level, f, c), Given::Value(v)) => postconditions(machine, 
-            state, level, f.result, f, c, v,
+        (CallFrame::Postconditions(level, f, c), Given::Value(v)) => postconditions(
+            machine, state, level, f.result, f, c, v,
         ),
         (CallFrame::Posted(_, _, _, v), _) => Ok(Next::Give(Given::Value(v))),
         (CallFrame::Destroyed(name, a), _) => valued(destruction(state, name, a)),
@@ -201,7 +207,8 @@ pub fn call_thrown<'p>(
         CallFrame::Verdict(level, assertion, semantic) => {
             state.append(Event::Verdict(Verdict::Threw))?;
             let mode = DetectionMode::EvaluationException;
-            threw(machine, 
+            threw(
+                machine,
                 state,
                 level,
                 semantic,

@@ -12,12 +12,16 @@ ghost use Rattle.cx_mean_parts.specs.Frames.{frames_of, waiting_of};
 ghost use Rattle.cx_mean_parts.specs.Steps.{Steps};
 
 use crate::acting::{enter, reported};
-use crate::asked::{caller_postconditions, caller_preconditions, class_count, function_with, is_implicit};
+use crate::asked::{
+    caller_postconditions, caller_preconditions, class_count, function_with, is_implicit,
+};
 use cx_code::{Ending, Kind, Party};
 use cx_core::{Argument, ResultKind, Statement};
 use cx_mean_parts::machine::Machine;
 use cx_mean_parts::program::Function;
-use cx_mean_parts::task::{Call, CallTask, Callee, CheckTask, ExpressionTask, Level, Row, StatementTask, Task};
+use cx_mean_parts::task::{
+    Call, CallTask, Callee, CheckTask, ExpressionTask, Level, Row, StatementTask, Task,
+};
 use cx_mean_parts::waiting::{ArgumentFrame, CallFrame, FollowingFrame, Given, Next, Waiting};
 use cx_plain_state::{Address, Answer, Halt, State, Value, undefined};
 use std::alloc::AllocError;
@@ -259,14 +263,14 @@ pub fn call_task<'p>(
     match task {
         CallTask::Calling(implicit, depth, c) => calling(machine, state, implicit, depth, c),
         CallTask::Counted(depth, c) => counted(machine, state, depth, c),
-        CallTask::CallOf(level, callee, this, a, place) => call_of(machine, 
-            state, level, callee, this, a, place,
+        CallTask::CallOf(level, callee, this, a, place) => call_of(
+            machine, state, level, callee, this, a, place,
         ),
-        CallTask::CallInto(level, callee, a, object) => call_into(machine, 
-            state, level, callee, a, object,
+        CallTask::CallInto(level, callee, a, object) => call_into(
+            machine, state, level, callee, a, object,
         ),
-        CallTask::ConstructAt(level, f, a, arguments) => construct_at(machine, 
-            state, level, f, a, arguments,
+        CallTask::ConstructAt(level, f, a, arguments) => construct_at(
+            machine, state, level, f, a, arguments,
         ),
         CallTask::Before(level, f, c) => before(machine, state, level, f, c),
         CallTask::After(level, f, c) => after(machine, state, level, f, c),

@@ -18,7 +18,9 @@ use cx_code::{DetectionMode, Ending, Party, Semantic, Verdict};
 use cx_core::Assertion;
 use cx_mean_parts::frames::silent;
 use cx_mean_parts::machine::Machine;
-use cx_mean_parts::task::{Call, CallTask, Check, CheckTask, Due, ExpressionTask, Level, Row, Task};
+use cx_mean_parts::task::{
+    Call, CallTask, Check, CheckTask, Due, ExpressionTask, Level, Row, Task,
+};
 use cx_mean_parts::waiting::{CallFrame, FollowingFrame, Given, LeavingFrame, Next, Waiting};
 use cx_plain_state::{Answer, Event, Exception, Halt, Report, State, Value};
 
@@ -261,13 +263,13 @@ pub fn check_task<'p>(
     ensures { let p = machine.now.program.now in let n = table_of p in Steps p (step_task (program_of p) (check_task_of n task.entry)) result state.old state.new }
 {
     match task {
-        CheckTask::Evaluations(level, party, count, due) => evaluations(machine, 
-            state, level, party, count, due,
+        CheckTask::Evaluations(level, party, count, due) => evaluations(
+            machine, state, level, party, count, due,
         ),
         CheckTask::Checks(level, party, row) => checks(machine, state, level, party, row),
         CheckTask::EdgedChecks(level, row) => edged_checks(machine, state, level, row),
-        CheckTask::HandlingViolation(level, report) => handling_violation(machine, 
-            state, level, report,
+        CheckTask::HandlingViolation(level, report) => handling_violation(
+            machine, state, level, report,
         ),
     }
 }

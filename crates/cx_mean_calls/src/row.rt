@@ -122,7 +122,11 @@ pub(crate) fn due_in_all(due: &[Due<'_>]) -> Option<u64>
 }
 
 /// What is owed of an assertion of the program's table.
-fn first_due<'p>(machine: &Machine<'p>, assertion: u32, predicate: &'p Operand) -> Result<Due<'p>, Halt>
+fn first_due<'p>(
+    machine: &Machine<'p>,
+    assertion: u32,
+    predicate: &'p Operand,
+) -> Result<Due<'p>, Halt>
     ensures due { let n = table_of machine.now.program.now in IfOk result (λ d. due_of d ≡ first_due (record { of = n assertion; predicate = operand_of predicate.now })) }
     ensures want { IfErr result (λ halt. halt ≡ Want) }
 {

@@ -146,7 +146,12 @@ fn result_through<'p>(
 
 /// A result object ends, and its value is given.
 #[tactic(auto, unfolding(cx_core::specs::Outcome::either, cx_core::specs::Outcome::gives, cx_core::specs::Outcome::ends, cx_core::specs::Outcome::throws))]
-fn end_result<'p>(machine: &Machine<'p>, state: &mut State<'p>, object: u64, v: Value<'p>) -> Result<Next<'p>, Halt>
+fn end_result<'p>(
+    machine: &Machine<'p>,
+    state: &mut State<'p>,
+    object: u64,
+    v: Value<'p>,
+) -> Result<Next<'p>, Halt>
     ensures { let p = machine.now.program.now in Steps p (result_ended object (value_of v.entry)) result state.old state.new }
 {
     end_lifetime(state, object)?;
@@ -184,7 +189,8 @@ fn reference_argument<'p>(
     ensures { let p = machine.now.program.now in Steps p (step_given (program_of p) (tasks.reference_argument (level_of level) (args_of rest.now)) (given_of given.entry)) result state.now state.now }
 {
     match given {
-        Given::Value(v) => arguments_under(machine, 
+        Given::Value(v) => arguments_under(
+            machine,
             state,
             level,
             rest,
@@ -276,7 +282,11 @@ fn result_given<'p>(
 
 /// An object ends, and nothing is given.
 #[tactic(auto, unfolding(cx_core::specs::Outcome::either, cx_core::specs::Outcome::gives, cx_core::specs::Outcome::ends, cx_core::specs::Outcome::throws))]
-fn end_object<'p>(machine: &Machine<'p>, state: &mut State<'p>, object: u64) -> Result<Next<'p>, Halt>
+fn end_object<'p>(
+    machine: &Machine<'p>,
+    state: &mut State<'p>,
+    object: u64,
+) -> Result<Next<'p>, Halt>
     ensures { let p = machine.now.program.now in Steps p (step_given (program_of p) (tasks.end_object object) tasks.nothing) result state.old state.new }
 {
     end_lifetime(state, object)?;
@@ -294,24 +304,24 @@ pub fn argument_given<'p>(
     ensures { let p = machine.now.program.now in Steps p (step_given (program_of p) (argument_frame_of frame.entry) (given_of given.entry)) result state.old state.new }
 {
     match frame {
-        ArgumentFrame::ReferenceArgument(level, rest) => reference_argument(machine, 
-            state, level, rest, given,
+        ArgumentFrame::ReferenceArgument(level, rest) => reference_argument(
+            machine, state, level, rest, given,
         ),
-        ArgumentFrame::ObjectArgument(level, rest) => object_argument(machine, 
-            state, level, rest, given,
+        ArgumentFrame::ObjectArgument(level, rest) => object_argument(
+            machine, state, level, rest, given,
         ),
         ArgumentFrame::FirstArgument(first) => first_argument(machine, state, first, given),
-        ArgumentFrame::CallThrough(level, kind, a) => call_through(machine, 
-            state, level, kind, a, given,
+        ArgumentFrame::CallThrough(level, kind, a) => call_through(
+            machine, state, level, kind, a, given,
         ),
-        ArgumentFrame::ResultThrough(level, a, place) => result_through(machine, 
-            state, level, a, place, given,
+        ArgumentFrame::ResultThrough(level, a, place) => result_through(
+            machine, state, level, a, place, given,
         ),
-        ArgumentFrame::CallWith(level, callee, place) => call_with(machine, 
-            state, level, callee, place, given,
+        ArgumentFrame::CallWith(level, callee, place) => call_with(
+            machine, state, level, callee, place, given,
         ),
-        ArgumentFrame::CallIntoObject(level, callee, object) => call_into_object(machine, 
-            state, level, callee, object, given,
+        ArgumentFrame::CallIntoObject(level, callee, object) => call_into_object(
+            machine, state, level, callee, object, given,
         ),
         ArgumentFrame::ReadResult(object) => valued(state.read(Address { object, leaf: 0 })),
         ArgumentFrame::EndResult(object) => result_given(machine, state, object, given),

@@ -136,12 +136,24 @@ pub(crate) fn expression<'p>(
             used_under(machine, state, level, a, frame)
         }
         Expression::LogicalAnd(a, b) => {
-            truth_under(machine, state, level, a, OperandFrame::Decide(level, false, b))
+            truth_under(
+                machine,
+                state,
+                level,
+                a,
+                OperandFrame::Decide(level, false, b),
+            )
         }
         Expression::Puts(text) => valued(state.puts_literal(text.bytes())),
         Expression::Getchar => valued(state.getchar()),
         Expression::LogicalOr(a, b) => {
-            truth_under(machine, state, level, a, OperandFrame::Decide(level, true, b))
+            truth_under(
+                machine,
+                state,
+                level,
+                a,
+                OperandFrame::Decide(level, true, b),
+            )
         }
         Expression::Conditional(a, b, c) => {
             truth_under(machine, state, level, a, OperandFrame::Choose(level, b, c))
@@ -155,10 +167,22 @@ pub(crate) fn expression<'p>(
             used_under(machine, state, level, b, frame)
         }
         Expression::PrefixStep(operator, of, a) => {
-            place_of(machine, state, level, a, Operation::PrefixStep(*operator, *of))
+            place_of(
+                machine,
+                state,
+                level,
+                a,
+                Operation::PrefixStep(*operator, *of),
+            )
         }
         Expression::PostfixStep(operator, of, a) => {
-            place_of(machine, state, level, a, Operation::PostfixStep(*operator, *of))
+            place_of(
+                machine,
+                state,
+                level,
+                a,
+                Operation::PostfixStep(*operator, *of),
+            )
         }
         Expression::Indirection(a) => operand_of(machine, state, level, a, Operation::Indirection),
         Expression::Member(leaf, a) => place_of(machine, state, level, a, Operation::Member(*leaf)),

@@ -17,7 +17,9 @@ use crate::zero::zero_object;
 use cx_core::{Argument, Initializer, Operand};
 use cx_mean_parts::machine::Machine;
 use cx_mean_parts::task::{CallTask, Callee, ExpressionTask, Keeper, Level, ObjectTask, Task};
-use cx_mean_parts::waiting::{ArgumentFrame, FollowingFrame, Given, Next, ObjectFrame, OperandFrame, Operation, Waiting};
+use cx_mean_parts::waiting::{
+    ArgumentFrame, FollowingFrame, Given, Next, ObjectFrame, OperandFrame, Operation, Waiting,
+};
 use cx_plain_state::{Address, Halt, ObjectType, State, Value};
 use cx_types::ValueType;
 
@@ -69,7 +71,11 @@ fn zero_first<'p>(
 
 /// A function is called, and what it gives isn't used.
 #[tactic(auto, unfolding(cx_core::specs::Outcome::either, cx_core::specs::Outcome::gives, cx_core::specs::Outcome::ends, cx_core::specs::Outcome::throws))]
-fn call_discarded<'p>(machine: &Machine<'p>, state: &State<'p>, task: CallTask<'p>) -> Result<Next<'p>, Halt>
+fn call_discarded<'p>(
+    machine: &Machine<'p>,
+    state: &State<'p>,
+    task: CallTask<'p>,
+) -> Result<Next<'p>, Halt>
     ensures { let n = table_of machine.now.program.now in Ran (next_of n) (doing (call_task_of n task.entry) (tasks.discard ∷ []) (state_of state.now)) result (state_of state.now) }
 {
     machine.under(
@@ -104,7 +110,11 @@ pub(crate) fn initialise<'p>(
         Initializer::ResultOf(function, a) => {
             let callee = Callee::ByName(*function);
             let result = Some(Value::Address(place));
-            call_discarded(machine, state, CallTask::CallOf(level, callee, None, a, result))
+            call_discarded(
+                machine,
+                state,
+                CallTask::CallOf(level, callee, None, a, result),
+            )
         }
         Initializer::ResultThrough(pointer, a) => {
             let task = Task::Expression(ExpressionTask::Used(level, pointer));
@@ -133,13 +143,7 @@ fn argument<'p>(
         }
         Argument::ByValue(of, i) => {
             let of = machine.object_type(*of);
-            let task = Task::Object(ObjectTask::Making(
-                level,
-                Keeper::InnermostScope,
-                of,
-                None,
-                i,
-            ));
+            let task = Task::Object(ObjectTask::Making(level, Keeper::InnermostScope, of, None, i));
             let frame = ArgumentFrame::ObjectArgument(level, rest);
             machine.under(state, task, Waiting::Argument(frame))
         }
@@ -193,7 +197,8 @@ pub fn expression_task<'p>(
         ExpressionTask::Expression(level, e) => expression(machine, state, level, e),
         ExpressionTask::Used(level, a) => used(machine, state, level, a),
         ExpressionTask::Evaluated(level, a) => evaluated(machine, state, level, a),
-        ExpressionTask::UsedTruth(level, a) => used_under(machine, 
+        ExpressionTask::UsedTruth(level, a) => used_under(
+            machine,
             state,
             level,
             a,

@@ -91,7 +91,13 @@ fn operand_value<'p>(
             used_under(machine, state, level, b, OperandFrame::Operate(operation))
         }
         OperandFrame::LeftPlace(level, a) => {
-            evaluated_under(machine, state, level, a, OperandFrame::Operate(Operation::Assign(v)))
+            evaluated_under(
+                machine,
+                state,
+                level,
+                a,
+                OperandFrame::Operate(Operation::Assign(v)),
+            )
         }
         OperandFrame::CompoundPlace(level, operator, computed, kept, a) => {
             let operation = Operation::CompoundAssign(operator, computed, kept, v);

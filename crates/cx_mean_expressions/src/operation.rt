@@ -147,7 +147,11 @@ fn result_in_place<'p>(
 
 /// The value of `return` is stored where there is a result object.
 #[tactic(auto, unfolding(cx_plain_state::specs::Seen::state_of, cx_core::specs::Outcome::either, cx_core::specs::Outcome::gives, cx_core::specs::Outcome::current_frame))]
-fn store_result<'p>(machine: &Machine<'p>, state: &mut State<'p>, value: Value<'p>) -> Result<Value<'p>, Halt>
+fn store_result<'p>(
+    machine: &Machine<'p>,
+    state: &mut State<'p>,
+    value: Value<'p>,
+) -> Result<Value<'p>, Halt>
     ensures { Ran value_of (result_applied (program_of machine.now.program.now) (value_of value.entry) (state_of state.old)) result (state_of state.new) }
 {
     match state.frame.result {

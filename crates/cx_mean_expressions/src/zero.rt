@@ -59,7 +59,12 @@ fn zero_leaves(state: &mut State<'_>, a: Address, leaves: &[LeafKind]) -> Result
 }
 
 #[tactic(auto, unfolding(cx_core::specs::Outcome::either, cx_core::specs::Outcome::gives, cx_core::specs::Outcome::ends))]
-fn zero_class<'p>(machine: &Machine<'p>, state: &mut State<'p>, class: &Class, a: Address) -> Result<(), Halt>
+fn zero_class<'p>(
+    machine: &Machine<'p>,
+    state: &mut State<'p>,
+    class: &Class,
+    a: Address,
+) -> Result<(), Halt>
     ensures { Ran unit_of (class_zeroed (class_of class.now) (address_of a) (state_of state.old)) result (state_of state.new) }
 {
     zero_leaves(state, a, class.definition.leaves.items())?;

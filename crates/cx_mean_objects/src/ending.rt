@@ -23,7 +23,11 @@ use std::alloc::AllocError;
 
 /// The lifetime of a whole object ends, and nothing is given.
 #[tactic(auto, unfolding(cx_core::specs::Outcome::either, cx_core::specs::Outcome::gives, cx_core::specs::Outcome::ends, cx_core::specs::Outcome::throws))]
-fn end_whole<'p>(machine: &Machine<'p>, state: &mut State<'p>, object: u64) -> Result<Next<'p>, Halt>
+fn end_whole<'p>(
+    machine: &Machine<'p>,
+    state: &mut State<'p>,
+    object: u64,
+) -> Result<Next<'p>, Halt>
     ensures { let p = machine.now.program.now in Steps p (object_gone object) result state.old state.new }
 {
     end_lifetime(state, object)?;
@@ -61,8 +65,8 @@ pub(crate) fn ending<'p>(
     ensures { let p = machine.now.program.now in Steps p (step_ending (program_of p) (level_of level) (living_of living)) result state.old state.new }
 {
     match living {
-        Living::Whole(object, ObjectType::Class(class)) => end_class_object(machine, 
-            state, level, object, class,
+        Living::Whole(object, ObjectType::Class(class)) => end_class_object(
+            machine, state, level, object, class,
         ),
         Living::Whole(object, ObjectType::Scalar(_)) => end_whole(machine, state, object),
         Living::Whole(object, ObjectType::Pointer(_)) => end_whole(machine, state, object),
@@ -177,7 +181,11 @@ pub(crate) fn destroying_each<'p>(
 
 /// A field is added to others, where it is a class object.
 #[tactic(auto)]
-fn add_class_field<'p>(machine: &Machine<'p>, found: &mut Vec<ClassField>, field: &Field) -> Result<(), AllocError>
+fn add_class_field<'p>(
+    machine: &Machine<'p>,
+    found: &mut Vec<ClassField>,
+    field: &Field,
+) -> Result<(), AllocError>
     ensures { OnOk result (map class_field_of found.new.items ≡ map class_field_of found.old.items ++ and_class_field field.now.leaf (object_type field.now.of) []) }
 {
     match machine.object_type(field.of) {
@@ -188,9 +196,7 @@ fn add_class_field<'p>(machine: &Machine<'p>, found: &mut Vec<ClassField>, field
             })?;
             Ok(())
         }
-        ObjectType::Scalar(_) | ObjectType::Pointer(_) | ObjectType::FunctionPointer(_) => Ok(
-            (),
-        ),
+        ObjectType::Scalar(_) | ObjectType::Pointer(_) | ObjectType::FunctionPointer(_) => Ok(()),
     }
 }
 

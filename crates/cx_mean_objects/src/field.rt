@@ -72,7 +72,15 @@ fn field_init<'p>(
     let place = place_in(this, f.leaf)?;
     let task = Task::Expression(ExpressionTask::Initialise(level, &f.init, place));
     let rest = Task::Object(ObjectTask::FieldInits(level, rest));
-    field_entered(machine, state, level, place, machine.object_type(f.of), task, rest)
+    field_entered(
+        machine,
+        state,
+        level,
+        place,
+        machine.object_type(f.of),
+        task,
+        rest,
+    )
 }
 
 /// Fields are initialised in order.
@@ -109,7 +117,15 @@ fn default_by<'p>(
     let arguments = Vec::new(machine.alloc);
     let task = Task::Call(CallTask::ConstructAt(level, constructor, place, arguments));
     let rest = Task::Object(ObjectTask::DefaultFields(level, fields));
-    field_entered(machine, state, level, place, ObjectType::Class(class), task, rest)
+    field_entered(
+        machine,
+        state,
+        level,
+        place,
+        ObjectType::Class(class),
+        task,
+        rest,
+    )
 }
 
 /// A field of a class is constructed without arguments, then the other fields are.
@@ -126,7 +142,8 @@ fn default_class<'p>(
 {
     match machine.class_at(class) {
         Some(definition) => match definition.definition.default_constructor {
-            Some(constructor) => default_by(machine, 
+            Some(constructor) => default_by(
+                machine,
                 state,
                 level,
                 leaf,
@@ -175,7 +192,8 @@ pub(crate) fn default_fields<'p>(
 {
     match fields.split_first() {
         None => Ok(Next::Give(Given::Nothing)),
-        Some((f, rest)) => default_field(machine, 
+        Some((f, rest)) => default_field(
+            machine,
             state,
             level,
             f.leaf,

@@ -19,7 +19,9 @@ use cx_core::Initializer;
 use cx_mean_parts::machine::Machine;
 use cx_mean_parts::task::{ExpressionTask, Keeper, Level, ObjectTask, Task};
 use cx_mean_parts::waiting::{FollowingFrame, Given, Next, ObjectFrame, Waiting};
-use cx_plain_state::{Address, Event, Exception, Halt, Living, ObjectType, State, Value, undefined};
+use cx_plain_state::{
+    Address, Event, Exception, Halt, Living, ObjectType, State, Value, undefined,
+};
 
 #[tactic(auto, unfolding(cx_core::specs::Outcome::gives))]
 fn keep(state: &mut State<'_>, keeper: Keeper, living: Living) -> Result<(), Halt>
@@ -44,7 +46,12 @@ fn bind_object(state: &mut State<'_>, slot: Option<u32>, object: u64) -> Result<
 
 /// A value is written at a place, and nothing is given.
 #[tactic(auto, unfolding(cx_core::specs::Outcome::either, cx_core::specs::Outcome::gives, cx_core::specs::Outcome::ends, cx_core::specs::Outcome::throws))]
-fn write_given<'p>(machine: &Machine<'p>, state: &mut State<'p>, a: Address, v: Value<'p>) -> Result<Next<'p>, Halt>
+fn write_given<'p>(
+    machine: &Machine<'p>,
+    state: &mut State<'p>,
+    a: Address,
+    v: Value<'p>,
+) -> Result<Next<'p>, Halt>
     ensures { Steps machine.now.program.now (value_written (address_of a) (value_of v.entry)) result state.old state.new }
 {
     state.write(a, Some(v))?;
@@ -53,7 +60,12 @@ fn write_given<'p>(machine: &Machine<'p>, state: &mut State<'p>, a: Address, v: 
 
 /// A name denotes a value, and nothing is given.
 #[tactic(auto, unfolding(cx_core::specs::Outcome::either, cx_core::specs::Outcome::gives, cx_core::specs::Outcome::ends, cx_core::specs::Outcome::throws))]
-fn bind_given<'p>(machine: &Machine<'p>, state: &mut State<'p>, slot: u32, v: Value<'p>) -> Result<Next<'p>, Halt>
+fn bind_given<'p>(
+    machine: &Machine<'p>,
+    state: &mut State<'p>,
+    slot: u32,
+    v: Value<'p>,
+) -> Result<Next<'p>, Halt>
     ensures { Steps machine.now.program.now (place_bound slot (value_of v.entry)) result state.old state.new }
 {
     state.bind(slot, v)?;
@@ -200,7 +212,12 @@ fn write_value<'p>(
 
 /// A reference denotes a place.
 #[tactic(auto, unfolding(cx_core::specs::Outcome::either, cx_core::specs::Outcome::gives, cx_core::specs::Outcome::ends, cx_core::specs::Outcome::throws))]
-fn bound<'p>(machine: &Machine<'p>, state: &mut State<'p>, slot: u32, given: Given<'p>) -> Result<Next<'p>, Halt>
+fn bound<'p>(
+    machine: &Machine<'p>,
+    state: &mut State<'p>,
+    slot: u32,
+    given: Given<'p>,
+) -> Result<Next<'p>, Halt>
     ensures { let p = machine.now.program.now in Steps p (step_given (program_of p) (tasks.bound slot) (given_of given.entry)) result state.old state.new }
 {
     match given {
@@ -274,28 +291,28 @@ pub fn object_task<'p>(
 {
     match task {
         ObjectTask::Destroying(level, class, a) => destroying(machine, state, level, class, a),
-        ObjectTask::DestroyingEach(level, a, fields) => destroying_each(machine, 
-            state, level, a, fields,
+        ObjectTask::DestroyingEach(level, a, fields) => destroying_each(
+            machine, state, level, a, fields,
         ),
-        ObjectTask::DestroyingFields(level, class, a) => destroying_fields(machine, 
-            state, level, class, a,
+        ObjectTask::DestroyingFields(level, class, a) => destroying_fields(
+            machine, state, level, class, a,
         ),
         ObjectTask::Ending(level, living) => ending(machine, state, level, living),
         ObjectTask::EndingEach(level, living) => ending_each(machine, state, level, living),
-        ObjectTask::Making(level, keeper, of, slot, i) => making(machine, 
-            state, level, keeper, of, slot, i,
+        ObjectTask::Making(level, keeper, of, slot, i) => making(
+            machine, state, level, keeper, of, slot, i,
         ),
         ObjectTask::Declaring(level, slot, of, i) => declaring(machine, state, level, slot, of, i),
         ObjectTask::FieldInits(level, fields) => field_inits(machine, state, level, fields),
         ObjectTask::DefaultFields(level, fields) => default_fields(machine, state, level, fields),
-        ObjectTask::CopyingFields(level, source, fields) => copying_fields(machine, 
-            state, level, source, fields,
+        ObjectTask::CopyingFields(level, source, fields) => copying_fields(
+            machine, state, level, source, fields,
         ),
-        ObjectTask::CopyingMembers(level, fields, source, to) => copying_members(machine, 
-            state, level, fields, source, to,
+        ObjectTask::CopyingMembers(level, fields, source, to) => copying_members(
+            machine, state, level, fields, source, to,
         ),
-        ObjectTask::CopyingObject(level, of, source, to) => copying_object(machine, 
-            state, level, of, source, to,
+        ObjectTask::CopyingObject(level, of, source, to) => copying_object(
+            machine, state, level, of, source, to,
         ),
     }
 }

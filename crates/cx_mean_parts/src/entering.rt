@@ -18,9 +18,9 @@ ghost use Rattle.std.specs.Option.{option_map};
 ghost use Rattle.cx_mean_parts.specs.CallParts.{begun, checked, default_handled};
 
 use crate::machine::Machine;
-use crate::task::{Level, Task, Call, CallTask};
+use crate::task::{Call, CallTask, Level, Task};
 use crate::waiting::{LeavingFrame, Waiting};
-use cx_plain_state::{Exception, Halt, State, Value, Frame};
+use cx_plain_state::{Exception, Frame, Halt, State, Value};
 use std::mem;
 
 #[tactic(auto, unfolding(cx_core::specs::Outcome::either, cx_core::specs::Outcome::gives, cx_core::specs::Outcome::ends, cx_core::specs::Outcome::throws))]

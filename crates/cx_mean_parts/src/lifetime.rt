@@ -19,7 +19,7 @@ ghost use Rattle.cx_core.specs.Tree as trees;
 use crate::machine::Machine;
 use crate::waiting::Next;
 use cx_code::Kind;
-use cx_plain_state::{Exception, Halt, State, undefined, ObjectType};
+use cx_plain_state::{Exception, Halt, ObjectType, State, undefined};
 
 /// The lifetime of an object ends.
 #[tactic(auto, unfolding(cx_core::specs::Outcome::either))]

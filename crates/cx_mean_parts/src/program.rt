@@ -1,4 +1,3 @@
-
 use cx_code::Semantic;
 use cx_core::{Assertion, Body, ClassDefinition, Constant, ResultKind, Specifier};
 use cx_outside::Text;

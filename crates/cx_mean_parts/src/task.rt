@@ -1,7 +1,9 @@
-
 use crate::program::{Function, PlannedAssertion};
 use cx_code::Party;
-use cx_core::{Argument, Expression, Field, FieldInitializer, Handler, Initializer, Operand, ResultKind, Specifier, Statement};
+use cx_core::{
+    Argument, Expression, Field, FieldInitializer, Handler, Initializer, Operand, ResultKind,
+    Specifier, Statement,
+};
 use cx_plain_state::{Address, Exception, Living, ObjectType, Report, Value};
 
 /// The calls that may still become active inside one another: those that are counted, and the implicit ones before the

@@ -1,8 +1,10 @@
-
 use crate::program::Function;
 use crate::task::{Call, Callee, Keeper, Level, Loop, Task};
 use cx_code::Semantic;
-use cx_core::{Argument, Assertion, BinaryOperator, Expression, Handler, IntegerType, Operand, PointedResult, Query, ResultKind, Statement, UnaryOperator};
+use cx_core::{
+    Argument, Assertion, BinaryOperator, Expression, Handler, IntegerType, Operand, PointedResult,
+    Query, ResultKind, Statement, UnaryOperator,
+};
 use cx_plain_state::{Address, Exception, Frame, Living, ObjectType, Value};
 
 /// How a statement is left, unless by an exception or the end of the run.

@@ -12,7 +12,11 @@ use cx_plain_state::{Halt, State, undefined};
 
 /// The value that `return` is given completes its statement.
 #[tactic(auto, unfolding(cx_core::specs::Outcome::either, cx_core::specs::Outcome::gives, cx_core::specs::Outcome::ends, cx_core::specs::Outcome::throws))]
-fn returning<'p>(machine: &Machine<'p>, state: &State<'p>, given: Given<'p>) -> Result<Next<'p>, Halt>
+fn returning<'p>(
+    machine: &Machine<'p>,
+    state: &State<'p>,
+    given: Given<'p>,
+) -> Result<Next<'p>, Halt>
     ensures { let p = machine.now.program.now in Steps p (step_given (program_of p) tasks.returning (given_of given.entry)) result state.now state.now }
 {
     match given {

@@ -11,9 +11,14 @@ use crate::statement::statement_under;
 use cx_code::Party;
 use cx_core::{Expression, Handler, Initializer, Operand, Statement};
 use cx_mean_parts::machine::Machine;
-use cx_mean_parts::task::{CheckTask, ExpressionTask, Keeper, Level, ObjectTask, Row, StatementTask, Task};
+use cx_mean_parts::task::{
+    CheckTask, ExpressionTask, Keeper, Level, ObjectTask, Row, StatementTask, Task,
+};
 use cx_mean_parts::values::result_in_frame;
-use cx_mean_parts::waiting::{Completion, FollowingFrame, Given, Next, ObjectFrame, OperandFrame, Operation, StatementFrame, Waiting};
+use cx_mean_parts::waiting::{
+    Completion, FollowingFrame, Given, Next, ObjectFrame, OperandFrame, Operation, StatementFrame,
+    Waiting,
+};
 use cx_plain_state::{Halt, ObjectType, State, Value};
 
 /// An operand is evaluated, and its value discarded.

@@ -31,7 +31,12 @@ fn is_among<'p>(machine: &Machine<'p>, e: Exception, others: &[Exception]) -> bo
 
 /// Whether an exception is one that is thrown, or among others.
 #[tactic(auto, unfolding(cx_core::specs::Outcome::either, cx_core::specs::Outcome::gives, cx_core::specs::Outcome::ends, cx_core::specs::Outcome::throws))]
-fn is_among_with<'p>(machine: &Machine<'p>, e: Exception, thrown: Exception, others: &[Exception]) -> bool
+fn is_among_with<'p>(
+    machine: &Machine<'p>,
+    e: Exception,
+    thrown: Exception,
+    others: &[Exception],
+) -> bool
     ensures { result ≡ is_among (program_of machine.now.program.now) no_calls (exception_of e) (exception_of thrown ∷ held_of others.now) }
 {
     e.object == thrown.object || is_among(machine, e, others)
@@ -156,13 +161,15 @@ pub fn leaving_given<'p>(
     ensures { let p = machine.now.program.now in Steps p (step_given (program_of p) (leaving_frame_of frame.entry) (given_of given.entry)) result state.old state.new }
 {
     match frame {
-        LeavingFrame::LeavingScope(level, outer) => leave_scope(machine, 
+        LeavingFrame::LeavingScope(level, outer) => leave_scope(
+            machine,
             state,
             level,
             outer,
             Left::Given(given),
         ),
-        LeavingFrame::LeavingFull(level, outer) => leave_full_expression(machine, 
+        LeavingFrame::LeavingFull(level, outer) => leave_full_expression(
+            machine,
             state,
             level,
             outer,
@@ -208,13 +215,15 @@ pub fn leaving_thrown<'p>(
     ensures { let p = machine.now.program.now in Steps p (step_thrown (program_of p) (leaving_frame_of frame.entry) (exception_of e)) result state.old state.new }
 {
     match frame {
-        LeavingFrame::LeavingScope(level, outer) => leave_scope(machine, 
+        LeavingFrame::LeavingScope(level, outer) => leave_scope(
+            machine,
             state,
             level,
             outer,
             Left::Thrown(e),
         ),
-        LeavingFrame::LeavingFull(level, outer) => leave_full_expression(machine, 
+        LeavingFrame::LeavingFull(level, outer) => leave_full_expression(
+            machine,
             state,
             level,
             outer,

@@ -109,7 +109,8 @@ fn turn<'p>(
 {
     state.spend()?;
     let frame = Waiting::Statement(StatementFrame::TurnTested(level, turned, turns));
-    statement_under(machine, 
+    statement_under(
+        machine,
         state,
         StatementTask::Testing(level, turned.condition),
         frame,
@@ -189,7 +190,12 @@ pub(crate) fn test_given<'p>(
     match given {
         Given::Truth(true) => {
             let frame = Waiting::Statement(StatementFrame::TurnDone(level, turned, turns));
-            statement_under(machine, state, StatementTask::Statement(level, turned.body), frame)
+            statement_under(
+                machine,
+                state,
+                StatementTask::Statement(level, turned.body),
+                frame,
+            )
         }
         Given::Truth(false) => Ok(Next::Give(Given::Completion(Completion::OnToNext))),
         _ => Err(undefined(Kind::Mixed)),

@@ -9,7 +9,10 @@ ghost use Rattle.cx_mean_parts.specs.Tasks.{level_of, statement_task_of};
 ghost use Rattle.cx_mean_parts.specs.Frames.{completion_of, given_of, next_of, statement_frame_of, waiting_of};
 ghost use Rattle.cx_mean_parts.specs.Steps.{Steps};
 
-use crate::full_expression::{asserted, branched, discarded, exception_made, object_returned, reference_declared, reference_returned, tried, value_returned, variable_declared};
+use crate::full_expression::{
+    asserted, branched, discarded, exception_made, object_returned, reference_declared,
+    reference_returned, tried, value_returned, variable_declared,
+};
 use crate::handling::{handling, rethrown};
 use crate::loops::{for_loop, looping, take_turns, test_given, testing, turn_given, while_loop};
 use cx_code::Kind;
@@ -134,7 +137,8 @@ pub(crate) fn sequence<'p>(
     ensures { let p = machine.now.program.now in let n = table_of p in Steps p (step_sequence (program_of p) (level_of level) (stmts_of n rest.now) (completion_of completion.entry)) result state.old state.new }
 {
     match completion {
-        Completion::OnToNext => next_statement(machine, 
+        Completion::OnToNext => next_statement(
+            machine,
             state,
             StatementTask::Statements(level, rest),
         ),
@@ -160,7 +164,9 @@ pub fn statement_task<'p>(
         StatementTask::Handling(level, h, e) => handling(machine, state, level, h, e),
         StatementTask::Testing(level, c) => testing(machine, state, level, c),
         StatementTask::Looping(level, turned) => looping(machine, state, level, turned),
-        StatementTask::Turns(level, turned, turns) => take_turns(machine, state, level, turned, turns),
+        StatementTask::Turns(level, turned, turns) => take_turns(
+            machine, state, level, turned, turns,
+        ),
     }
 }
 
