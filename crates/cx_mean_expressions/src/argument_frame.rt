@@ -3,14 +3,14 @@ ghost use Rattle.std.specs.Prelude.{[], ◌∷◌};
 ghost use Rattle.std.specs.Option.{option_map};
 ghost use Rattle.cx_core.specs.Outcome.{end_lifetime};
 ghost use Rattle.cx_plain.specs.Step.{doing, step_call_through, step_call_to, step_given, step_thrown};
-ghost use Rattle.cx_plain_state.specs.Ran.{Ran, itself, unit_of, values_of};
+ghost use Rattle.cx_plain_state.specs.Ran.{Ran, itself, values_of};
 ghost use Rattle.cx_plain_state.specs.Seen.{address_of, state_of, value_of, exception_of};
 ghost use Rattle.cx_mean_parts.specs.Seen.{table_of, program_of, args_of};
 ghost use Rattle.cx_mean_parts.specs.Tasks.{callee_of, level_of};
 ghost use Rattle.cx_mean_parts.specs.Frames.{frames_of, given_of, argument_frame_of};
 ghost use Rattle.cx_core.specs.Calls.{function_held};
 ghost use Rattle.cx_core.specs.View.{pointed_result};
-ghost use Rattle.cx_mean_parts.specs.Parts.{result_ended, ended_by};
+ghost use Rattle.cx_mean_parts.specs.Parts.{result_ended};
 ghost use Rattle.cx_mean_parts.specs.Steps.{Steps};
 ghost use Rattle.cx_plain.specs.Task as tasks;
 

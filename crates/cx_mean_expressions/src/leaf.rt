@@ -3,7 +3,6 @@ ghost use Rattle.cx_core.specs.View.{constant};
 ghost use Rattle.cx_plain_state.specs.Ran.{Ran};
 ghost use Rattle.cx_plain_state.specs.Seen.{state_of, value_of};
 ghost use Rattle.cx_mean_parts.specs.Parts.{literal_of, variable_of, global_of, function_name_of, result_in_frame, result_name_of, exception_object_of};
-ghost use Rattle.cx_mean_parts.specs.Steps.{GivesValue};
 
 use cx_code::Kind;
 use cx_core::Constant;

@@ -5,7 +5,7 @@ ghost use Rattle.cx_core.specs.Operators.{truth_value};
 ghost use Rattle.cx_core.specs.Meaning.{object_place};
 ghost use Rattle.cx_plain.specs.Step.{step_given};
 ghost use Rattle.cx_plain_state.specs.Seen.{value_of};
-ghost use Rattle.cx_mean_parts.specs.Seen.{table_of, program_of};
+ghost use Rattle.cx_mean_parts.specs.Seen.{program_of};
 ghost use Rattle.cx_mean_parts.specs.Tasks.{level_of};
 ghost use Rattle.cx_mean_parts.specs.Frames.{given_of, operand_frame_of};
 ghost use Rattle.cx_mean_parts.specs.Parts.{truth_tested, decided, chosen};

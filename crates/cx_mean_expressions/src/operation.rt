@@ -1,10 +1,8 @@
 //! What is done with the values of operands.
-ghost use Rattle.std.specs.Prelude.{◌≡◌, IfOk, IfErr};
 ghost use Rattle.cx_core.specs.Store.{place_in};
 ghost use Rattle.cx_plain.specs.Step.{applied};
-ghost use Rattle.cx_plain_state.specs.declared.answer.Halt.TheVariants.{Want};
 ghost use Rattle.cx_plain_state.specs.Ran.{Ran};
-ghost use Rattle.cx_plain_state.specs.Seen.{state_of, value_of, address_of};
+ghost use Rattle.cx_plain_state.specs.Seen.{state_of, value_of};
 ghost use Rattle.cx_mean_parts.specs.Seen.{program_of};
 ghost use Rattle.cx_mean_parts.specs.Frames.{operation_of};
 ghost use Rattle.cx_mean_parts.specs.Parts.{unary_applied, binary_applied, cast_applied, assign_applied, compound_assign_applied, prefix_applied, postfix_applied, indirection_applied, member_applied, result_in_place, result_applied};

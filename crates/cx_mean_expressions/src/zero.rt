@@ -1,11 +1,9 @@
 //! Zero-initialisation [dcl.init.general].
-ghost use Rattle.std.specs.Prelude.{map};
-ghost use Rattle.cx_core.specs.View.{leaf_kind};
 ghost use Rattle.cx_core.specs.Statements.{zero_object};
 ghost use Rattle.cx_plain.specs.Step.{no_calls};
 ghost use Rattle.cx_plain_state.specs.Ran.{Ran, unit_of};
 ghost use Rattle.cx_plain_state.specs.Seen.{state_of, address_of};
-ghost use Rattle.cx_mean_parts.specs.Seen.{table_of, program_of, class_of};
+ghost use Rattle.cx_mean_parts.specs.Seen.{program_of, class_of};
 ghost use Rattle.cx_mean_parts.specs.Parts.{number_zeroed, pointer_zeroed, leaf_zeroed, leaves_zeroed, class_zeroed};
 
 use cx_code::Kind;

@@ -2,7 +2,7 @@
 ghost use Rattle.std.specs.Prelude.{◌≡◌, [], ◌++◌, map, reverse, IfOk, OnOk};
 ghost use Rattle.cx_plain.specs.Step.{step_task, step_ending, step_ending_each, step_destroying_each};
 ghost use Rattle.cx_plain_state.specs.Seen.{living_of, livings_of, address_of};
-ghost use Rattle.cx_mean_parts.specs.Seen.{table_of, program_of, class_of, fields_of};
+ghost use Rattle.cx_mean_parts.specs.Seen.{program_of, class_of, fields_of};
 ghost use Rattle.cx_mean_parts.specs.Tasks.{level_of, class_field_of};
 ghost use Rattle.cx_mean_parts.specs.Parts.{object_gone, class_object_gone, first_ending, destroyed_by, first_destroying, fields_destroyed_by};
 ghost use Rattle.cx_mean_parts.specs.Steps.{Steps};

@@ -1,14 +1,13 @@
 //! Objects that are made and declared.
 ghost use Rattle.cx_core.specs.View.{init_of};
-ghost use Rattle.cx_plain.specs.Step.{no_calls, keeps, bind_object, step_given, step_thrown, step_task};
-ghost use Rattle.cx_plain_state.specs.Ran.{Ran, unit_of, itself};
+ghost use Rattle.cx_plain.specs.Step.{keeps, bind_object, step_given, step_thrown, step_task};
+ghost use Rattle.cx_plain_state.specs.Ran.{Ran, unit_of};
 ghost use Rattle.cx_plain_state.specs.Seen.{state_of, value_of, exception_of, living_of, address_of, type_of};
-ghost use Rattle.cx_mean_parts.specs.Seen.{table_of, program_of};
+ghost use Rattle.cx_mean_parts.specs.Seen.{program_of};
 ghost use Rattle.cx_mean_parts.specs.Tasks.{level_of, keeper_of, object_task_of};
 ghost use Rattle.cx_mean_parts.specs.Frames.{given_of, object_frame_of};
 ghost use Rattle.cx_mean_parts.specs.Parts.{made_at, object_kept, field_kept, value_written, place_bound, exception_thrown};
 ghost use Rattle.cx_mean_parts.specs.Steps.{Steps};
-ghost use Rattle.cx_core.specs.Leaving.{leaves_of_type};
 ghost use Rattle.cx_core.specs.Tree as trees;
 ghost use Rattle.cx_plain.specs.Task as tasks;
 

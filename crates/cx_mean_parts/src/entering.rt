@@ -1,21 +1,15 @@
 //! How scopes, full-expressions, constructions, handlers and the code of other units are entered, and calls made.
-ghost use Rattle.std.specs.Prelude.{◌≡◌, ◌∷◌, IfOk, OnOk, IfErr, Bool, [], map, suc, Some};
-ghost use Rattle.cx_core.specs.View.{init_of, parameter_of, assertion_of};
-ghost use Rattle.cx_core.specs.Tree as tree;
+ghost use Rattle.std.specs.Prelude.{◌≡◌, ◌∷◌, IfOk, OnOk, IfErr, [], Some};
 ghost use Rattle.cx_plain.specs.Task as tasks;
-ghost use Rattle.cx_plain.specs.Step.{step_parameter, step_handled, step_handling, doing, left_by, no_calls, step_given, step_thrown, calls, step_evaluations, step_handling_violation, step_violated, step_verdict, step_threw, step_task};
+ghost use Rattle.cx_plain.specs.Step.{calls};
 ghost use Rattle.cx_plain_state.specs.declared.answer.Halt.TheVariants.{Want};
-ghost use Rattle.cx_plain_state.specs.Ran.{Ran, unit_of, values_of};
-ghost use Rattle.cx_plain_state.specs.Seen.{state_of, type_of, exception_of, exceptions_of, held_of, living_of, livings_of, value_of, violation_of};
-ghost use Rattle.cx_mean_parts.specs.Seen.{stmts_of, table_of, program_of, handler_of, handlers_of};
-ghost use Rattle.cx_mean_parts.specs.Tasks.{level_of, row_of, check_seen, due_of, task_of, check_task_of};
-ghost use Rattle.cx_mean_parts.specs.Frames.{frames_of, waiting_of, given_of, left_of, leaving_frame_of, next_of};
-ghost use Rattle.cx_mean_parts.specs.StatementParts.{caught, flown, innermost_flown, flown_again};
-ghost use Rattle.cx_mean_parts.specs.Steps.{Steps};
-ghost use Rattle.cx_core.specs.Leaving.{is_among};
-ghost use Rattle.cx_mean_parts.specs.Parts.{scope_left, full_expression_left, fields_undone, released, handler_left, call_here};
+ghost use Rattle.cx_plain_state.specs.Ran.{values_of};
+ghost use Rattle.cx_plain_state.specs.Seen.{state_of, exception_of, value_of};
+ghost use Rattle.cx_mean_parts.specs.Seen.{table_of, program_of};
+ghost use Rattle.cx_mean_parts.specs.Tasks.{level_of, task_of};
+ghost use Rattle.cx_mean_parts.specs.Frames.{waiting_of};
+ghost use Rattle.cx_mean_parts.specs.Parts.{call_here};
 ghost use Rattle.std.specs.Option.{option_map};
-ghost use Rattle.cx_mean_parts.specs.CallParts.{begun, checked, default_handled};
 
 use crate::machine::Machine;
 use crate::task::{Call, CallTask, Level, Task};

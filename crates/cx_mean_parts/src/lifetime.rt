@@ -1,20 +1,12 @@
 //! How many leaves an object has, and the end of its lifetime.
-ghost use Rattle.std.specs.Prelude.{[], ◌∷◌};
-ghost use Rattle.std.specs.Option.{option_map};
 ghost use Rattle.cx_core.specs.Outcome.{end_lifetime};
-ghost use Rattle.cx_plain.specs.Step.{doing, step_call_through, step_call_to, step_given, step_thrown, no_calls, keeps, bind_object, step_task};
-ghost use Rattle.cx_plain_state.specs.Ran.{Ran, itself, unit_of, values_of};
-ghost use Rattle.cx_plain_state.specs.Seen.{address_of, state_of, value_of, exception_of, living_of, type_of};
-ghost use Rattle.cx_mean_parts.specs.Seen.{table_of, program_of, args_of};
-ghost use Rattle.cx_mean_parts.specs.Tasks.{callee_of, level_of, keeper_of, object_task_of};
-ghost use Rattle.cx_mean_parts.specs.Frames.{frames_of, given_of, argument_frame_of, object_frame_of};
-ghost use Rattle.cx_core.specs.Calls.{function_held};
-ghost use Rattle.cx_core.specs.View.{pointed_result, init_of};
-ghost use Rattle.cx_mean_parts.specs.Parts.{result_ended, ended_by, made_at, object_kept, field_kept, value_written, place_bound, exception_thrown};
+ghost use Rattle.cx_plain.specs.Step.{no_calls};
+ghost use Rattle.cx_plain_state.specs.Ran.{Ran, itself, unit_of};
+ghost use Rattle.cx_plain_state.specs.Seen.{state_of, exception_of, type_of};
+ghost use Rattle.cx_mean_parts.specs.Seen.{program_of};
+ghost use Rattle.cx_mean_parts.specs.Parts.{ended_by};
 ghost use Rattle.cx_mean_parts.specs.Steps.{Steps};
-ghost use Rattle.cx_plain.specs.Task as tasks;
 ghost use Rattle.cx_core.specs.Leaving.{leaves_of_type};
-ghost use Rattle.cx_core.specs.Tree as trees;
 
 use crate::machine::Machine;
 use crate::waiting::Next;

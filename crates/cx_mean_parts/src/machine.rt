@@ -4,7 +4,7 @@ ghost use Rattle.cx_plain.specs.Task as tasks;
 ghost use Rattle.cx_plain_state.specs.declared.answer.Halt.TheVariants.{Want};
 ghost use Rattle.cx_plain_state.specs.Ran.{Ran};
 ghost use Rattle.cx_plain_state.specs.Seen.{state_of};
-ghost use Rattle.cx_mean_parts.specs.Seen.{table_of, program_of};
+ghost use Rattle.cx_mean_parts.specs.Seen.{table_of};
 ghost use Rattle.cx_mean_parts.specs.Tasks.{task_of, statement_task_of};
 ghost use Rattle.cx_mean_parts.specs.Frames.{next_of, waiting_of};
 

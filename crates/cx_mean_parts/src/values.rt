@@ -1,17 +1,10 @@
 //! Values and places that several kinds of steps give.
-ghost use Rattle.cx_core.specs.View.{constant, operand_of};
 ghost use Rattle.cx_plain_state.specs.Ran.{Ran};
 ghost use Rattle.cx_plain_state.specs.Seen.{state_of, value_of, address_of};
-ghost use Rattle.cx_mean_parts.specs.Parts.{literal_of, variable_of, global_of, function_name_of, result_in_frame, result_name_of, exception_object_of, truth_tested, decided, chosen, unary_applied, binary_applied, cast_applied, assign_applied, compound_assign_applied, prefix_applied, postfix_applied, indirection_applied, member_applied, result_in_place, result_applied};
-ghost use Rattle.cx_mean_parts.specs.Steps.{GivesValue, Steps};
+ghost use Rattle.cx_mean_parts.specs.Parts.{result_in_frame};
+ghost use Rattle.cx_mean_parts.specs.Steps.{GivesValue};
 ghost use Rattle.std.specs.Prelude.{◌≡◌, IfOk, IfErr};
-ghost use Rattle.cx_core.specs.Operators.{truth_value};
 ghost use Rattle.cx_core.specs.Meaning.{object_place};
-ghost use Rattle.cx_plain.specs.Step.{step_given, applied};
-ghost use Rattle.cx_mean_parts.specs.Seen.{table_of, program_of};
-ghost use Rattle.cx_mean_parts.specs.Tasks.{level_of};
-ghost use Rattle.cx_mean_parts.specs.Frames.{given_of, operand_frame_of, operation_of};
-ghost use Rattle.cx_plain.specs.Task as tasks;
 ghost use Rattle.cx_core.specs.Store.{place_in};
 ghost use Rattle.cx_plain_state.specs.declared.answer.Halt.TheVariants.{Want};
 
