@@ -17,7 +17,7 @@ use Rattle.cx_core.specs.Operators.{bind, converted_to, read_as, converted, oper
 use Rattle.cx_core.specs.Library.{write_bytes, putchar_call, next_byte, getchar_call, puts_bytes, puts_call, query_call, puts_comment_call}
 use Rattle.cx_core.specs.Program.{Program, LeafKind, number_leaf, pointer_leaf, empty_leaf, ResultKind, void, scalar_value, scalar_object, class_object, reference, exit_status}
 use Rattle.cx_core.specs.Statements.{Completion, on_to_next, break, continue, return, sequence, loop, zero_leaf, zero_leaves, zero_object, throw_of, rethrow_of, rethrown, handled, variable_of, reference_of, this_place, keep_field, field_of, type_name}
-use Rattle.cx_core.specs.Calls.{Callee, by_name, by_pointer, function_held, call_to, call_of, call_into, call_with_object, call_giving, call_through_giving, result_stored, returned, returned_object, value_given, body, destroy_result, naming_result, checked_body}
+use Rattle.cx_core.specs.Calls.{Callee, by_name, by_pointer, function_held, call_to, call_of, call_into, call_with_object, call_giving, call_through_giving, temporary_of_call, result_stored, returned, returned_object, value_given, body, destroy_result, naming_result, checked_body}
 
 -- an event that takes nothing of what is told or of the input
 abbrev pub IsPlain : Event → Type 0
@@ -468,6 +468,12 @@ module _ (K : (A : Type 0) → Does A → Type 0) (c : IsClosed K) where
     call_through_giving_of scalar_result p arguments h = call_with_object_of (by_pointer p) arguments h
     call_through_giving_of void_result p arguments h = call_of_of (by_pointer p) arguments None h
     call_through_giving_of reference_result p arguments h = call_of_of (by_pointer p) arguments None h
+
+    pub temporary_of_call_of : (t : ℕ) (p : Value) (arguments : Does (List Value)) → K (List Value) arguments → K Value (temporary_of_call program calls t p arguments)
+    temporary_of_call_of t p arguments h = then_of _ _
+        (object_of _ (class t) (λ place. call_of program calls (by_pointer p) arguments (Some (address place)) >> gives nothing) keep_temporary_of
+        (λ place. seq_of _ _ (call_of_of (by_pointer p) arguments (Some (address place)) h) (gives_of nothing)))
+        (λ n. gives_of (address (record { object = n; leaf = 0 })))
 
     result_stored_of : (result : Option Value) (v : Value) → K Value (result_stored program calls result v)
     result_stored_of None v = gives_of _

@@ -1,7 +1,7 @@
 -- What holds of the primitives holds of each tree, of each call at each depth, and so of the run of a program.
 use Rattle.std.proofs.Common.{ℕ, zero, suc, ◌+◌, Bool, true, false, List, [], ◌∷◌, length, map, Option, Some, None}
 use Rattle.cx_core.specs.Words.{Party, Definer, Caller, Violation}
-use Rattle.cx_core.specs.Tree.{ObjectType, scalar, pointer, function_pointer, class, Expr, literal, variable, global, this, function_name, result_name, exception_object, unary, binary, logical_and, logical_or, conditional, cast, assign, compound_assign, prefix_step, postfix_step, indirection, member, call, call_through, temporary, putchar, getchar, puts, puts_comment, query, Operand, operand, Init, value, construct, zero_first, result_of, result_through, Args, no_more, by_reference, by_value, Check, Specifier, CatchParameter, unnamed, Condition, always, while, Stmt, empty, expression, variable_declaration, reference_declaration, block, if_else, while_loop, for_loop, contract_assert, try, return_value, return_reference, return_object, rethrow, Stmts, done, next, Handlers, none, catch_all}
+use Rattle.cx_core.specs.Tree.{ObjectType, scalar, pointer, function_pointer, class, Expr, literal, variable, global, this, function_name, result_name, exception_object, unary, binary, logical_and, logical_or, conditional, cast, assign, compound_assign, prefix_step, postfix_step, indirection, member, call, call_through, temporary, temporary_through, putchar, getchar, puts, puts_comment, query, Operand, operand, Init, value, construct, zero_first, result_of, result_through, Args, no_more, by_reference, by_value, Check, Specifier, CatchParameter, unnamed, Condition, always, while, Stmt, empty, expression, variable_declaration, reference_declaration, block, if_else, while_loop, for_loop, contract_assert, try, return_value, return_reference, return_object, rethrow, Stmts, done, next, Handlers, none, catch_all}
 use Rattle.cx_core.specs.Tree as tree
 use Rattle.cx_core.specs.Program.{Checks, FieldInit, Body, function, constructor, destructor, implicit_constructor, implicit_copy_constructor, implicit_destructor, Function, Field, Program}
 use Rattle.cx_core.specs.Store.{Address, Value, address, null, place_in}
@@ -52,6 +52,7 @@ module _ (K : (A : Type 0) → Does A → Type 0) (c : IsClosed K) where
       expr_of (call f a) = every.then_of K c _ _ (every.then_of K c _ _ (every.some_of K c _) (λ definition. c.of_gives _)) (λ kind. every.call_giving_of K c program calls calls_of kind f _ (args_of a))
       expr_of (call_through kind p a) = every.then_of K c _ _ (used_of p) (λ v. every.call_through_giving_of K c program calls calls_of kind v _ (args_of a))
       expr_of (temporary type i) = every.then_of K c _ _ (every.object_of K c program calls calls_of keep_temporary type _ (every.keep_temporary_of K c) (init_of i)) (λ n. c.of_gives _)
+      expr_of (temporary_through t p a) = every.then_of K c _ _ (used_of p) (λ v. every.temporary_of_call_of K c program calls calls_of t v _ (args_of a))
       expr_of (putchar a) = every.putchar_call_of K c _ (used_of a)
       expr_of getchar = every.getchar_call_of K c
       expr_of (puts text) = every.puts_call_of K c text

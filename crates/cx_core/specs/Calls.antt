@@ -8,15 +8,16 @@
 -- | a scalar that is no object: of a function without a postcondition that is called by its name | | `return`: it is what the call gives | | | |
 -- | a scalar object: of a function with a postcondition, or of each one that is called through a pointer | `call_with_object`, before the parameters | `returned`, within the full-expression of `return` | the frame's `result` | `call_into`, behind the last postcondition and before the parameters end | `call_with_object`, behind the parameters |
 -- | a class object | what the call initialises; its place is handed in | `returned_object`, within the full-expression of `return` | the frame's `result` | | where its scope or full-expression does; `destroy_result`, where a postcondition's handler throws |
+-- | a class object: a temporary that a call through a pointer gives | `temporary_of_call`, behind the pointer and before the parameters | the same | the same | | where its full-expression does; `destroy_result`, where a postcondition's handler throws |
 -- | a reference | | `return`: what it refers to is what the call gives | `naming_result`, during the postconditions | | |
 -- | the status of `main` | | `return`, or 0 at the end of the body | | | |
 use Rattle.std.specs.Prelude.{ℕ, List, Option, Some, None, pos}
 use Rattle.cx_core.specs.Words.{Null, Mixed, Flow}
-use Rattle.cx_core.specs.Tree.{PointedResult, void_result, scalar_result, reference_result}
+use Rattle.cx_core.specs.Tree.{class, PointedResult, void_result, scalar_result, reference_result}
 use Rattle.cx_core.specs.Store.{Address, Value, number, address, null, function, violation}
-use Rattle.cx_core.specs.Outcome.{Does, Nothing, ◌>>=◌, ◌>>◌, gives, skip, undefined, some, undone_by, current_frame, make, end_lifetime, place_of, read, write}
+use Rattle.cx_core.specs.Outcome.{Does, Nothing, ◌>>=◌, ◌>>◌, gives, skip, undefined, some, undone_by, current_frame, make, end_lifetime, keep_temporary, place_of, read, write}
 use Rattle.cx_core.specs.Program.{Program, ResultKind, void, scalar_object, class_object, reference, exit_status}
-use Rattle.cx_core.specs.Leaving.{Calls, within, destroy, scope, full_expression}
+use Rattle.cx_core.specs.Leaving.{Calls, within, destroy, scope, full_expression, object}
 use Rattle.cx_core.specs.Statements.{Completion, return}
 
 -- what is called: a function by its name, or what the value of a pointer holds
@@ -76,6 +77,12 @@ module _ (program : Program) (calls : Calls) where
   call_through_giving scalar_result p arguments = call_with_object (by_pointer p) arguments
   call_through_giving void_result p arguments = call_of (by_pointer p) arguments None
   call_through_giving reference_result p arguments = call_of (by_pointer p) arguments None
+
+  -- the result object of a class is a temporary, which the full-expression keeps once the call has initialised it
+  abbrev pub temporary_of_call : (class : ℕ) → Value → Does (List Value) → Does Value
+  temporary_of_call c p arguments = do
+    n ← object program calls keep_temporary (class c) (λ place. call_of (by_pointer p) arguments (Some (address place)) >> skip)
+    gives (address (record { object = n; leaf = 0 }))
 
   -- ---- where it returns
 

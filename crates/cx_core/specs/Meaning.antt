@@ -1,7 +1,7 @@
 -- What a program means: a recursion over its trees, one clause for each production, after [expr], [stmt], [class.ctor], [class.dtor] and [except] of the C++ draft and [basic.contract.eval] of P2900R14; the order of evaluation, the budget, the depth of calls and the globals' numbers are this project's own.
 use Rattle.std.specs.Prelude.{ℕ, zero, suc, ◌+◌, Bool, true, false, if◌then◌else◌, List, [], ◌∷◌, length, map, reverse, Option, Some, None, slice_get}
 use Rattle.cx_core.specs.Words.{Party, Definer, Caller, Mixed, Returned, Terminated, TooDeep, Undefined, Violation}
-use Rattle.cx_core.specs.Tree.{ObjectType, class, Constant, Expr, literal, variable, global, this, function_name, result_name, exception_object, unary, binary, logical_and, logical_or, conditional, cast, assign, compound_assign, prefix_step, postfix_step, indirection, member, call, call_through, temporary, putchar, getchar, puts, puts_comment, query, Operand, operand, Init, value, construct, zero_first, result_of, result_through, Args, no_more, by_reference, by_value, Check, Specifier, CatchParameter, unnamed, Condition, always, while, Stmt, empty, expression, variable_declaration, reference_declaration, block, if_else, while_loop, for_loop, contract_assert, try, return_value, return_reference, return_object, rethrow, Stmts, done, next, Handlers, none, catch_all}
+use Rattle.cx_core.specs.Tree.{ObjectType, class, Constant, Expr, literal, variable, global, this, function_name, result_name, exception_object, unary, binary, logical_and, logical_or, conditional, cast, assign, compound_assign, prefix_step, postfix_step, indirection, member, call, call_through, temporary, temporary_through, putchar, getchar, puts, puts_comment, query, Operand, operand, Init, value, construct, zero_first, result_of, result_through, Args, no_more, by_reference, by_value, Check, Specifier, CatchParameter, unnamed, Condition, always, while, Stmt, empty, expression, variable_declaration, reference_declaration, block, if_else, while_loop, for_loop, contract_assert, try, return_value, return_reference, return_object, rethrow, Stmts, done, next, Handlers, none, catch_all}
 use Rattle.cx_core.specs.Tree as tree
 use Rattle.cx_core.specs.Program.{Checks, FieldInit, Body, function, constructor, destructor, implicit_constructor, implicit_copy_constructor, implicit_destructor, is_counted, ResultKind, Function, Field, Program}
 use Rattle.cx_core.specs.Store as store
@@ -14,7 +14,7 @@ use Rattle.cx_core.specs.Check.{truth, evaluation}
 use Rattle.cx_core.specs.Operators.{constant, named, bind, converted, unary_operation, binary_operation, logical_operation, conditional_operation, cast_operation, assignment, compound_assignment, prefix_operation, postfix_operation, indirection_of, member_of}
 use Rattle.cx_core.specs.Library.{putchar_call, getchar_call, next_byte, puts_call, puts_comment_call, query_call}
 use Rattle.cx_core.specs.Statements.{Completion, on_to_next, break, continue, return, completed, sequence, turns, loop, same_type, zero_object, throw_of, rethrown, handled, variable_of, reference_of, this_place, field_of}
-use Rattle.cx_core.specs.Calls.{by_name, by_pointer, call_of, call_giving, call_through_giving, returned, returned_object, checked_body}
+use Rattle.cx_core.specs.Calls.{by_name, by_pointer, call_of, call_giving, call_through_giving, temporary_of_call, returned, returned_object, checked_body}
 
 -- the exception object that the innermost handler holds
 abbrev pub held_object : List Exception → Does Value
@@ -52,6 +52,7 @@ module _ (program : Program) (calls : Calls) where
     expr (call f a) = result_kind f >>= (λ kind. call_giving program calls kind f (args a))
     expr (call_through kind p a) = used p >>= (λ v. call_through_giving program calls kind v (args a))
     expr (temporary type i) = object program calls keep_temporary type (init i) >>= (λ n. gives (object_place n))
+    expr (temporary_through c p a) = used p >>= (λ v. temporary_of_call program calls c v (args a))
     expr (putchar a) = putchar_call (used a)
     expr getchar = getchar_call
     expr (puts text) = puts_call text

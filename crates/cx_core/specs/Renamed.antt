@@ -1,6 +1,6 @@
 -- Trees in which functions, their types, classes and globals have other numbers, and other things stand for the assertions; this project's own form of what linking does to a unit.
 use Rattle.std.specs.Prelude.{ℕ, map, Option, Some, None}
-use Rattle.cx_core.specs.Tree.{ObjectType, pointer, function_pointer, class, Expr, global, function_name, unary, binary, logical_and, logical_or, conditional, cast, assign, compound_assign, prefix_step, postfix_step, indirection, member, call, call_through, temporary, putchar, puts_comment, query, Operand, operand, Init, value, construct, zero_first, result_of, result_through, Args, no_more, by_reference, by_value, Specifier, CatchParameter, object, Condition, always, while, Stmt, empty, expression, variable_declaration, reference_declaration, block, if_else, while_loop, for_loop, break, continue, return, return_value, return_reference, return_object, contract_assert, throw, rethrow, try, Stmts, done, next, Handlers, none, catch_all, catch}
+use Rattle.cx_core.specs.Tree.{ObjectType, pointer, function_pointer, class, Expr, global, function_name, unary, binary, logical_and, logical_or, conditional, cast, assign, compound_assign, prefix_step, postfix_step, indirection, member, call, call_through, temporary, temporary_through, putchar, puts_comment, query, Operand, operand, Init, value, construct, zero_first, result_of, result_through, Args, no_more, by_reference, by_value, Specifier, CatchParameter, object, Condition, always, while, Stmt, empty, expression, variable_declaration, reference_declaration, block, if_else, while_loop, for_loop, break, continue, return, return_value, return_reference, return_object, contract_assert, throw, rethrow, try, Stmts, done, next, Handlers, none, catch_all, catch}
 use Rattle.cx_core.specs.Program.{FieldInit, Body, function, constructor, destructor, implicit_constructor, implicit_copy_constructor, implicit_destructor, ResultKind, class_object, Field, Class}
 
 -- the number of each function, type of functions, class and global
@@ -27,6 +27,7 @@ module _ (names : Names) where
     renamed_expr (function_name f) = function_name (names.function_number f)
     renamed_expr (call f a) = call (names.function_number f) (renamed_args a)
     renamed_expr (temporary type i) = temporary (renamed_type type) (renamed_init i)
+    renamed_expr (temporary_through c p a) = temporary_through (names.class_number c) (renamed_operand p) (renamed_args a)
     -- every other clause copies
     renamed_expr (unary operator type a) = unary operator type (renamed_operand a)
     renamed_expr (binary operator type a b) = binary operator type (renamed_operand a) (renamed_operand b)

@@ -57,6 +57,8 @@ mutual
     -- a call of what a pointer holds
     call_through : PointedResult → Operand → Args → Expr
     temporary : ObjectType → Init → Expr
+    -- the object of a class that a call of what a pointer holds gives, as a temporary
+    temporary_through : (class : ℕ) → Operand → Args → Expr
     putchar : Operand → Expr
     getchar : Expr
     puts : (text : List ℕ) → Expr

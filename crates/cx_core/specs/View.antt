@@ -117,6 +117,7 @@ expression_layer (Expression-F.Member leaf a) = tree.member leaf a.value
 expression_layer (Expression-F.Call f a) = tree.call f (args a.items)
 expression_layer (Expression-F.CallThrough kind p a) = tree.call_through (pointed_result kind) p.value (args a.items)
 expression_layer (Expression-F.Temporary type i) = tree.temporary (object_type type) i.value
+expression_layer (Expression-F.TemporaryThrough c p a) = tree.temporary_through c p.value (args a.items)
 expression_layer (Expression-F.Putchar a) = tree.putchar a.value
 expression_layer Expression-F.Getchar = tree.getchar
 expression_layer (Expression-F.Puts text) = tree.puts text

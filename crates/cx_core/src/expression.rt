@@ -58,6 +58,8 @@ pub enum Expression {
     /// A call of the function that a pointer holds.
     CallThrough(PointedResult, Box<Operand>, Vec<Argument>),
     Temporary(ValueType, Box<Initializer>),
+    /// The object of the class that a call through a pointer gives, as a temporary.
+    TemporaryThrough(u32, Box<Operand>, Vec<Argument>),
     Putchar(Box<Operand>),
     Getchar,
     Puts(Text),

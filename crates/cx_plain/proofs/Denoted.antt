@@ -13,7 +13,7 @@ use Rattle.cx_core.specs.Block.{Owed, evaluations}
 use Rattle.cx_core.specs.Check.{truth, handle, verdict_on, verdict_threw}
 use Rattle.cx_core.specs.Operators.{truth_value, operated, bind, stored, updated}
 use Rattle.cx_core.specs.Statements.{Completion, on_to_next, return, sequence, after_turn, turns, loop, variable_of, keep_field, type_name}
-use Rattle.cx_core.specs.Calls.{by_pointer, call_to, call_of, call_into, call_through_giving, body, destroy_result, naming_result, value_given}
+use Rattle.cx_core.specs.Calls.{by_pointer, call_to, call_of, call_into, call_through_giving, temporary_of_call, body, destroy_result, naming_result, value_given}
 use Rattle.cx_core.specs.Meaning.{expr, used, init, args, evaluated, condition, owed, checked, stmt, stmts, handlers, preconditions, postconditions, caller_row, field_inits, default_fields, copy_fields, copy_members, copy_object, object_place, implicit_within, calls_within}
 use Rattle.cx_plain.specs.Task as task
 use Rattle.cx_plain.specs.Task.{Level, Given, value, nothing, values, number, completion, Left, given, thrown, Operation, Keeper, Loop, Due, Task, Frame, Next, go}
@@ -139,6 +139,8 @@ module _ (program : Program) where
       on_value g (λ p. valued_rest (call_through_giving program (at level) kind p (args program (at level) a)) k)
   given_means (task.result_through level a place) g k =
       on_value g (λ p. silent_rest (call_of program (at level) (by_pointer p) (args program (at level) a) (Some (address place)) >> skip) k)
+  given_means (task.temporary_through level c a) g k =
+      on_value g (λ p. valued_rest (temporary_of_call program (at level) c p (args program (at level) a)) k)
   given_means (task.call_with level callee result) g k = on_values g (λ vs. valued_rest (call_to program (at level) callee vs result) k)
   given_means (task.call_into_object level callee n) g k = on_values g (λ vs. valued_rest (do
     call_to program (at level) callee vs (Some (object_place n))

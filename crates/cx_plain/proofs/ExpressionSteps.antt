@@ -2,17 +2,17 @@
 use Rattle.std.proofs.Common.{refl, sym, ◌∙◌, ℕ, Option, Some, None}
 use Rattle.std.specs.Prelude.{slice_get}
 use Rattle.cx_core.specs.Tree as tree
-use Rattle.cx_core.specs.Tree.{PointedResult, void_result, scalar_result, reference_result, Expr, Operand, operand, Init, Args, no_more, by_reference, by_value}
+use Rattle.cx_core.specs.Tree.{PointedResult, class, void_result, scalar_result, reference_result, Expr, Operand, operand, Init, Args, no_more, by_reference, by_value}
 use Rattle.cx_core.specs.Program.{Program, ResultKind, void, scalar_value, scalar_object, class_object, reference, exit_status, Function}
-use Rattle.cx_core.specs.Store.{Value}
-use Rattle.cx_core.specs.Outcome.{Does, either, ◌>>=◌, ◌>>◌, gives, throws, ends, some, make, end_lifetime, keep_temporary, undone_by}
-use Rattle.cx_core.specs.Leaving.{object}
+use Rattle.cx_core.specs.Store.{Value, address}
+use Rattle.cx_core.specs.Outcome.{Does, Nothing, whole, skip, either, ◌>>=◌, ◌>>◌, gives, throws, ends, some, make, end_lifetime, keep_temporary, undone_by}
+use Rattle.cx_core.specs.Leaving.{leaves_of_type, object}
 use Rattle.cx_core.specs.Check.{truth}
-use Rattle.cx_core.specs.Calls.{Callee, by_name, by_pointer, call_into, call_with_object, call_giving, call_through_giving}
-use Rattle.cx_core.specs.Meaning.{expr, used, init, args}
+use Rattle.cx_core.specs.Calls.{Callee, by_name, by_pointer, call_into, call_with_object, call_of, call_giving, call_through_giving, temporary_of_call}
+use Rattle.cx_core.specs.Meaning.{expr, used, init, args, object_place}
 use Rattle.cx_plain.specs.Task as task
 use Rattle.cx_plain.specs.Task.{Level, Given, value, nothing, values, number, completion, Task, Frame, Next, go}
-use Rattle.cx_plain.specs.Step.{answered, valued, step_expression, step_with_object, step_call, step_call_through}
+use Rattle.cx_plain.specs.Step.{answered, valued, step_expression, step_with_object, step_call, step_call_through, step_temporary_through}
 use Rattle.cx_plain.proofs.Flow.{flow, both, undone_flow}
 use Rattle.cx_plain.proofs.Denoted.{Rest, with_rest, valued_rest, at, task_means, next_means, Steps}
 
@@ -38,6 +38,19 @@ module _ (program : Program) where
   through_steps level scalar_result p a k = object_steps level (by_pointer p) a k
   through_steps level void_result p a k = refl
   through_steps level reference_result p a k = refl
+
+  pub temporary_through_steps : (level : Level) (c : ℕ) (p : Value) (a : Args) (k : Rest)
+      → Steps program (valued_rest (temporary_of_call program (at program level) c p (args program (at program level) a)) k) (step_temporary_through program level c p a) k
+  unfolding either gives throws ends
+  temporary_through_steps level c p a k =
+      flow (object program (at program level) keep_temporary (class c) initialised) _ _ _
+      ∙ both (leaves_of_type program (at program level) (class c)) _ _ _ _ _ (λ leaves. both (make leaves) _ _ _ _ _ (λ n.
+      flow (undone_by (initialised (record { object = n; leaf = 0 })) (end_lifetime n)) _ _ _
+      ∙ undone_flow (initialised (record { object = n; leaf = 0 })) (end_lifetime n) _ _
+      ∙ flow (call_of program (at program level) (by_pointer p) (args program (at program level) a) (Some (object_place n))) _ _ _))
+    where
+      initialised : Rattle.cx_core.specs.Store.Address → Does Nothing
+      initialised place = call_of program (at program level) (by_pointer p) (args program (at program level) a) (Some (address place)) >> skip
 
   call_steps : (level : Level) (kind : ResultKind) (f : ℕ) (a : Args) (k : Rest)
       → Steps program (valued_rest (call_giving program (at program level) kind f (args program (at program level) a)) k) (step_call program level kind f a) k
@@ -81,6 +94,7 @@ module _ (program : Program) where
   expression_steps level (tree.call f a) k = call_expression_steps level (slice_get program.functions f) f a k
   expression_steps level (tree.call_through kind p a) k = flow (used program (at program level) p) _ _ _
   expression_steps level (tree.temporary type i) k = flow (object program (at program level) keep_temporary type (init program (at program level) i)) _ _ _
+  expression_steps level (tree.temporary_through c p a) k = flow (used program (at program level) p) _ _ _
   expression_steps level (tree.putchar a) k = flow (used program (at program level) a) _ _ _
   expression_steps level tree.getchar k = valued_steps _ k
   expression_steps level (tree.puts text) k = valued_steps _ k

@@ -19,7 +19,7 @@ use Rattle.cx_plain.specs.Step.{site_of, answered, valued, silent, no_calls, on_
 use Rattle.cx_plain.proofs.Flow.{flow, both, finally_flow, undone_flow}
 use Rattle.cx_plain.proofs.Denoted.{Rest, valued_rest, silent_rest, completed_rest, left_means, at, step_of, turns_of, given_means, thrown_means, under, next_means, Steps, leaves_scope, leaves_full}
 use Rattle.cx_plain.proofs.Opened.{open_holding, both_steady, steady_frame, steady_function_held}
-use Rattle.cx_plain.proofs.ExpressionSteps.{answered_steps, through_steps}
+use Rattle.cx_plain.proofs.ExpressionSteps.{answered_steps, through_steps, temporary_through_steps}
 
 module _ (program : Program) where
   -- ---- what is given is of one sort
@@ -264,6 +264,7 @@ module _ (program : Program) where
   given_steps (task.call_through level kind a) g k = on_value_steps g _ _ k (λ p. through_steps program level kind p a k)
   given_steps (task.result_through level a place) g k = on_value_steps g _ _ k (λ p.
       flow (call_of program (at program level) (by_pointer p) (args program (at program level) a) (Some (address place))) _ _ _)
+  given_steps (task.temporary_through level c a) g k = on_value_steps g _ _ k (λ p. temporary_through_steps program level c p a k)
   given_steps (task.call_with level callee result) g k = on_values_steps g _ _ k (λ vs. call_to_steps level callee vs result [] k)
   given_steps (task.call_into_object level callee n) g k = on_values_steps g _ _ k (λ vs.
       flow (call_to program (at program level) callee vs (Some (Rattle.cx_core.specs.Meaning.object_place n))) _ _ _

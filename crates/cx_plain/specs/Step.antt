@@ -66,6 +66,13 @@ module _ (program : Program) where
   step_call_through level void_result p a = doing (task.call_of level (by_pointer p) None a None) []
   step_call_through level reference_result p a = doing (task.call_of level (by_pointer p) None a None) []
 
+  -- the temporary is made behind the pointer, and the call initialises it
+  abbrev pub step_temporary_through : Level → (class : ℕ) → Value → Args → Does Next
+  step_temporary_through level c p a = do
+    leaves ← leaves_of_type program no_calls (class c)
+    n ← make leaves
+    doing (task.call_of level (by_pointer p) None a (Some (object_place n))) (task.discard ∷ task.made full_expression n (class c) ∷ task.place_of_object ∷ [])
+
   -- the arguments are there
   abbrev pub step_call_to : Level → Callee → List Value → Option Value → List Frame → Does Next
   step_call_to level (by_name f) arguments result frames = do
@@ -100,6 +107,7 @@ module _ (program : Program) where
   step_expression level (tree.call f a) = some (slice_get program.functions f) >>= (λ definition. step_call level definition.result f a)
   step_expression level (tree.call_through kind p a) = doing (task.used level p) (task.call_through level kind a ∷ [])
   step_expression level (tree.temporary type i) = doing (task.making level full_expression type None i) (task.place_of_object ∷ [])
+  step_expression level (tree.temporary_through c p a) = doing (task.used level p) (task.temporary_through level c a ∷ [])
   step_expression level (tree.putchar a) = doing (task.used level a) (task.operate task.putchar ∷ [])
   step_expression level tree.getchar = valued getchar_call
   step_expression level (tree.puts text) = valued (puts_call text)
@@ -437,6 +445,7 @@ module _ (program : Program) where
   step_given (task.call_through level kind a) g = on_value g (λ p. step_call_through level kind p a)
   step_given (task.result_through level a place) g =
       on_value g (λ p. doing (task.call_of level (by_pointer p) None a (Some (address place))) (task.discard ∷ []))
+  step_given (task.temporary_through level c a) g = on_value g (λ p. step_temporary_through level c p a)
   step_given (task.call_with level callee result) g = on_values g (λ vs. step_call_to level callee vs result [])
   step_given (task.call_into_object level callee n) g = on_values g (λ vs. step_call_to level callee vs (Some (object_place n)) (task.read_result n ∷ []))
   step_given (task.read_result n) g = valued (read (record { object = n; leaf = 0 }))

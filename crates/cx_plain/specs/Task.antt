@@ -124,6 +124,7 @@ pub data Frame : Type 0 where
   first_argument : Value → Frame
   call_through : Level → PointedResult → Args → Frame
   result_through : Level → Args → Address → Frame
+  temporary_through : Level → (class : ℕ) → Args → Frame
   call_with : Level → Callee → (result : Option Value) → Frame
   call_into_object : Level → Callee → (object : ℕ) → Frame
   read_result : (object : ℕ) → Frame
