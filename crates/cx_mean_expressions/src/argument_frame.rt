@@ -2,7 +2,7 @@
 ghost use Rattle.std.specs.Prelude.{[], ◌∷◌};
 ghost use Rattle.std.specs.Option.{option_map};
 ghost use Rattle.cx_core.specs.Outcome.{end_lifetime};
-ghost use Rattle.cx_plain.specs.Step.{doing, step_call_through, step_call_to, step_given, step_thrown};
+ghost use Rattle.cx_plain.specs.Step.{doing, step_call_through, step_call_to, step_given, step_temporary_through, step_thrown};
 ghost use Rattle.cx_plain_state.specs.Ran.{Ran, itself, values_of};
 ghost use Rattle.cx_plain_state.specs.Seen.{address_of, state_of, value_of, exception_of};
 ghost use Rattle.cx_mean_parts.specs.Seen.{table_of, program_of, args_of};
@@ -10,7 +10,7 @@ ghost use Rattle.cx_mean_parts.specs.Tasks.{callee_of, level_of};
 ghost use Rattle.cx_mean_parts.specs.Frames.{frames_of, given_of, argument_frame_of};
 ghost use Rattle.cx_core.specs.Calls.{function_held};
 ghost use Rattle.cx_core.specs.View.{pointed_result};
-ghost use Rattle.cx_mean_parts.specs.Parts.{result_ended};
+ghost use Rattle.cx_mean_parts.specs.Parts.{result_ended, temporary_called};
 ghost use Rattle.cx_mean_parts.specs.Steps.{Steps};
 ghost use Rattle.cx_plain.specs.Task as tasks;
 
@@ -19,10 +19,12 @@ use cx_code::Kind;
 use cx_core::{Argument, PointedResult};
 use cx_mean_parts::lifetime::end_lifetime;
 use cx_mean_parts::machine::Machine;
-use cx_mean_parts::task::{CallTask, Callee, ExpressionTask, Level, Task};
+use cx_mean_parts::task::{CallTask, Callee, ExpressionTask, Keeper, Level, Task};
 use cx_mean_parts::values::{object_place, valued};
-use cx_mean_parts::waiting::{ArgumentFrame, FollowingFrame, Given, Next, Waiting};
-use cx_plain_state::{Address, Exception, Halt, State, Value, undefined};
+use cx_mean_parts::waiting::{
+    ArgumentFrame, FollowingFrame, Given, Next, ObjectFrame, OperandFrame, Waiting,
+};
+use cx_plain_state::{Address, Exception, Halt, ObjectType, State, Value, undefined};
 
 /// The function that a pointer holds.
 #[tactic(auto, unfolding(cx_core::specs::Outcome::gives, cx_core::specs::Outcome::ends))]
@@ -140,6 +142,63 @@ fn result_through<'p>(
             let discard = Waiting::Following(FollowingFrame::Discard);
             machine.under(state, Task::Call(task), discard)
         }
+        _ => Err(undefined(Kind::Mixed)),
+    }
+}
+
+/// The temporary of a class is made, and a call of what a pointer holds initialises it.
+#[tactic(auto, unfolding(cx_core::specs::Outcome::either, cx_core::specs::Outcome::gives, cx_core::specs::Outcome::ends, cx_core::specs::Outcome::throws))]
+fn temporary_called<'p>(
+    machine: &Machine<'p>,
+    state: &mut State<'p>,
+    level: Level,
+    class: u32,
+    pointer: Value<'p>,
+    a: &'p [Argument],
+    leaves: usize,
+) -> Result<Next<'p>, Halt>
+    ensures { let p = machine.now.program.now in Steps p (temporary_called (level_of level) class (value_of pointer.entry) (args_of a.now) leaves) result state.old state.new }
+{
+    let object = state.make(machine.alloc, leaves)?;
+    let result = Some(object_place(object));
+    let task = CallTask::CallOf(level, Callee::ByPointer(pointer), None, a, result);
+    let discard = Waiting::Following(FollowingFrame::Discard);
+    let of = ObjectType::Class(class);
+    let made = Waiting::Object(ObjectFrame::Made(Keeper::FullExpression, object, of));
+    let place = Waiting::Operand(OperandFrame::PlaceOfObject);
+    machine.under_three(state, Task::Call(task), discard, made, place)
+}
+
+/// What a pointer holds is called for a temporary of a class.
+#[tactic(auto, unfolding(cx_core::specs::Outcome::either, cx_core::specs::Outcome::gives, cx_core::specs::Outcome::ends, cx_core::specs::Outcome::throws))]
+fn call_for_temporary<'p>(
+    machine: &Machine<'p>,
+    state: &mut State<'p>,
+    level: Level,
+    class: u32,
+    pointer: Value<'p>,
+    a: &'p [Argument],
+) -> Result<Next<'p>, Halt>
+    ensures { let p = machine.now.program.now in Steps p (step_temporary_through (program_of p) (level_of level) class (value_of pointer.entry) (args_of a.now)) result state.old state.new }
+{
+    let leaves = machine.leaves_of(state, ObjectType::Class(class))?;
+    temporary_called(machine, state, level, class, pointer, a, leaves)
+}
+
+/// The pointer whose call initialises a temporary is given.
+#[tactic(auto, unfolding(cx_core::specs::Outcome::either, cx_core::specs::Outcome::gives, cx_core::specs::Outcome::ends, cx_core::specs::Outcome::throws))]
+fn temporary_through<'p>(
+    machine: &Machine<'p>,
+    state: &mut State<'p>,
+    level: Level,
+    class: u32,
+    a: &'p [Argument],
+    given: Given<'p>,
+) -> Result<Next<'p>, Halt>
+    ensures { let p = machine.now.program.now in Steps p (step_given (program_of p) (tasks.temporary_through (level_of level) class (args_of a.now)) (given_of given.entry)) result state.old state.new }
+{
+    match given {
+        Given::Value(v) => call_for_temporary(machine, state, level, class, v, a),
         _ => Err(undefined(Kind::Mixed)),
     }
 }
@@ -314,6 +373,9 @@ pub fn argument_given<'p>(
         ArgumentFrame::CallThrough(level, kind, a) => call_through(
             machine, state, level, kind, a, given,
         ),
+        ArgumentFrame::TemporaryThrough(level, class, a) => temporary_through(
+            machine, state, level, class, a, given,
+        ),
         ArgumentFrame::ResultThrough(level, a, place) => result_through(
             machine, state, level, a, place, given,
         ),
@@ -346,6 +408,7 @@ pub fn argument_thrown<'p>(
         ArgumentFrame::FirstArgument(_) => Err(Halt::Thrown(e)),
         ArgumentFrame::CallThrough(_, _, _) => Err(Halt::Thrown(e)),
         ArgumentFrame::ResultThrough(_, _, _) => Err(Halt::Thrown(e)),
+        ArgumentFrame::TemporaryThrough(_, _, _) => Err(Halt::Thrown(e)),
         ArgumentFrame::CallWith(_, _, _) => Err(Halt::Thrown(e)),
         ArgumentFrame::CallIntoObject(_, _, _) => Err(Halt::Thrown(e)),
         ArgumentFrame::ReadResult(_) => Err(Halt::Thrown(e)),

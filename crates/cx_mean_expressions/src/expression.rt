@@ -192,6 +192,11 @@ pub(crate) fn expression<'p>(
             let frame = ArgumentFrame::CallThrough(level, *kind, a);
             machine.under(state, task, Waiting::Argument(frame))
         }
+        Expression::TemporaryThrough(class, pointer, a) => {
+            let task = Task::Expression(ExpressionTask::Used(level, pointer));
+            let frame = ArgumentFrame::TemporaryThrough(level, *class, a);
+            machine.under(state, task, Waiting::Argument(frame))
+        }
         Expression::Temporary(of, i) => temporary(machine, state, level, *of, i),
         Expression::Putchar(a) => operand_of(machine, state, level, a, Operation::Putchar),
         Expression::PutsComment(a) => place_of(machine, state, level, a, Operation::PutsComment),

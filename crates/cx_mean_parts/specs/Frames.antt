@@ -108,6 +108,7 @@ argument_frame_of (arguments.ReferenceArgument level rest) = task.reference_argu
 argument_frame_of (arguments.ObjectArgument level rest) = task.object_argument (level_of level) (args_of rest.now)
 argument_frame_of (arguments.FirstArgument v) = task.first_argument (value_of v)
 argument_frame_of (arguments.CallThrough level kind a) = task.call_through (level_of level) (pointed_result kind) (args_of a.now)
+argument_frame_of (arguments.TemporaryThrough level c a) = task.temporary_through (level_of level) c (args_of a.now)
 argument_frame_of (arguments.ResultThrough level a p) = task.result_through (level_of level) (args_of a.now) (address_of p)
 argument_frame_of (arguments.CallWith level callee result) = task.call_with (level_of level) (callee_of callee) (option_map value_of result)
 argument_frame_of (arguments.CallIntoObject level callee n) = task.call_into_object (level_of level) (callee_of callee) n

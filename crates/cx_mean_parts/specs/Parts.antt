@@ -1,7 +1,7 @@
 -- Parts of the machine's steps that have functions of their own here.
 use Rattle.std.specs.Prelude.{ℕ, ◌+◌, Bool, false, not, if◌then◌else◌, List, [], ◌∷◌, Option, Some, None, map, reverse, pos, slice_get}
 use Rattle.cx_core.specs.Tree as tree
-use Rattle.cx_core.specs.Tree.{ObjectType, Operand, Args, Init}
+use Rattle.cx_core.specs.Tree.{ObjectType, class, Operand, Args, Init}
 use Rattle.cx_core.specs.Program.{Program, Class, Field}
 use Rattle.cx_core.specs.Event as event
 use Rattle.cx_core.specs.Leaving.{class_fields}
@@ -15,7 +15,7 @@ use Rattle.cx_core.specs.Operators.{constant, named, bind, truth_value, operated
 use Rattle.cx_core.specs.declared.unit.LeafKind.{LeafKind}
 use Rattle.cx_core.specs.View.{leaf_kind}
 use Rattle.cx_core.specs.Statements.{zero_leaf, zero_leaves, zero_object, keep_field, type_name}
-use Rattle.cx_core.specs.Calls.{Callee, result_stored}
+use Rattle.cx_core.specs.Calls.{Callee, by_pointer, result_stored}
 use Rattle.cx_core.specs.Leaving.{Call}
 use Rattle.cx_core.specs.Meaning.{held_object, object_place, copy_leaf}
 use Rattle.cx_plain.specs.Task as task
@@ -52,6 +52,12 @@ abbrev pub object_call : Level → Callee → Args → Does Next
 object_call level callee a = do
   n ← make 1
   doing (task.call_into level callee a n) (task.end_result n ∷ [])
+
+-- a temporary of a class is made, and a call of what a pointer holds initialises it
+abbrev pub temporary_called : Level → (class : ℕ) → Value → Args → (leaves : ℕ) → Does Next
+temporary_called level c p a leaves = do
+  n ← make leaves
+  doing (task.call_of level (by_pointer p) None a (Some (object_place n))) (task.discard ∷ task.made task.full_expression n (class c) ∷ task.place_of_object ∷ [])
 
 abbrev pub function_called : Program → Level → ℕ → Args → Does Next
 function_called program level f a = some (slice_get program.functions f) >>= (λ definition. step_call program level definition.result f a)

@@ -95,6 +95,8 @@ pub enum ArgumentFrame<'p> {
     CallThrough(Level, PointedResult, &'p [Argument]),
     /// For a pointer whose call initialises an object.
     ResultThrough(Level, &'p [Argument], Address),
+    /// The pointer whose call initialises a temporary of a class.
+    TemporaryThrough(Level, u32, &'p [Argument]),
     CallWith(Level, Callee<'p>, Option<Value<'p>>),
     CallIntoObject(Level, Callee<'p>, u64),
     ReadResult(u64),
