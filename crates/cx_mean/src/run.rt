@@ -12,6 +12,7 @@ ghost use Rattle.cx_mean_parts.specs.Seen.{Table, table_of, program_of};
 ghost use Rattle.cx_mean_parts.specs.Frames.{next_of, frames_of, left_of, given_of};
 ghost use Rattle.cx_mean.specs.Runs.{config_of, Stands, Means, meaning_of, settled_from, left_outcome};
 
+use crate::begin::begin;
 use crate::step::{given_step, task_step, thrown_step};
 use cx_code::{Ending, Kind};
 use cx_mean_parts::machine::Machine;
@@ -220,8 +221,8 @@ pub fn mean_of<'p>(
     ensures { IfOk result (λ m. meaning_of m ≡ mean (program_of program.now) (map evaluation_of begins.now) input.now budget) }
 {
     let machine = Machine { alloc, program };
-    let mut state = machine.begin(begins, input, budget)?;
-    let answer = machine.run(&mut state)?;
+    let mut state = begin(&machine, begins, input, budget)?;
+    let answer = run(&machine, &mut state)?;
     let State { trace, .. } = state;
     Ok(Meaning { trace, answer })
 }

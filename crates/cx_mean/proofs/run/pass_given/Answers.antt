@@ -7,4 +7,4 @@ pub returns-in-Some : goal.returns-in-Some
 unfolding either
 returns-in-Some c =
     rw (frames-popped (table_of c.args.machine.now.program.now) c.args.stack.now.items c.pop.new.self.items c.in-Some.frame c.in-Some.ensures.items)
-    (c.settle.ensures (table_of c.args.machine.now.program.now) _ _ c.given-next.ensures)
+    (c.settle.ensures (table_of c.args.machine.now.program.now) _ _ c.given_step-next.ensures)

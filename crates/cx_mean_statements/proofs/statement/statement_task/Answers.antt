@@ -4,4 +4,4 @@ pub returns-in-Block : goal.returns-in-Block
 returns-in-Block c = rw c.in-Block.is c.block.ensures
 
 pub returns-in-Turns : goal.returns-in-Turns
-returns-in-Turns c = rw c.in-Turns.is c.turns.ensures
+returns-in-Turns c = rw c.in-Turns.is c.take_turns.ensures
