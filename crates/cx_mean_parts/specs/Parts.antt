@@ -1,7 +1,7 @@
 -- Parts of the machine's steps that have functions of their own here.
 use Rattle.std.specs.Prelude.{ℕ, ◌+◌, Bool, false, not, if◌then◌else◌, List, [], ◌∷◌, Option, Some, None, map, reverse, pos, slice_get}
 use Rattle.cx_core.specs.Tree as tree
-use Rattle.cx_core.specs.Tree.{ObjectType, class, Operand, Args, Init}
+use Rattle.cx_core.specs.Tree.{ObjectType, Operand, Args, Init}
 use Rattle.cx_core.specs.Program.{Program, Class, Field}
 use Rattle.cx_core.specs.Event as event
 use Rattle.cx_core.specs.Leaving.{class_fields}
@@ -57,7 +57,7 @@ object_call level callee a = do
 abbrev pub temporary_called : Level → (class : ℕ) → Value → Args → (leaves : ℕ) → Does Next
 temporary_called level c p a leaves = do
   n ← make leaves
-  doing (task.call_of level (by_pointer p) None a (Some (object_place n))) (task.discard ∷ task.made task.full_expression n (class c) ∷ task.place_of_object ∷ [])
+  doing (task.call_of level (by_pointer p) None a (Some (object_place n))) (task.discard ∷ task.made task.full_expression n (tree.class c) ∷ task.place_of_object ∷ [])
 
 abbrev pub function_called : Program → Level → ℕ → Args → Does Next
 function_called program level f a = some (slice_get program.functions f) >>= (λ definition. step_call program level definition.result f a)
