@@ -5,12 +5,12 @@ use Rattle.cx_core.specs.Program.{Program}
 use Rattle.cx_core.specs.Event.{Event, Answer}
 use Rattle.cx_core.specs.Outcome.{State, on, over}
 use Rattle.cx_core.specs.Meaning.{Meaning, meaning_of}
-use Rattle.cx_mean.specs.Seen.{Table}
+use Rattle.cx_mean_parts.specs.Seen.{Table}
 use Rattle.cx_plain.specs.Task as task
 use Rattle.cx_plain.specs.Run.{Config, passing, step_config}
 use Rattle.cx_plain.proofs.Runs.{config_means, step_means, step_is_over}
-use Rattle.cx_mean.specs.declared.waiting.Waiting.{Waiting}
-use Rattle.cx_mean.specs.Frames.{frames_of, waiting_of}
+use Rattle.cx_mean_parts.specs.declared.waiting.Waiting.{Waiting}
+use Rattle.cx_mean_parts.specs.Frames.{frames_of, waiting_of}
 use Rattle.cx_mean.specs.Runs.{left_outcome}
 
 -- the last of the frames is the innermost

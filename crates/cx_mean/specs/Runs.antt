@@ -6,7 +6,7 @@ use Rattle.cx_core.specs.Event.{Evaluation}
 use Rattle.cx_core.specs.Outcome as outcome
 use Rattle.cx_core.specs.Store.{Value}
 use Rattle.cx_core.specs.Outcome.{Outcome, Does, on, over, after, gives, throws}
-use Rattle.cx_mean.specs.Seen.{Table}
+use Rattle.cx_mean_parts.specs.Seen.{Table}
 use Rattle.cx_core.specs.Meaning as meaning
 use Rattle.cx_core.specs.Meaning.{mean, start}
 use Rattle.cx_plain.specs.Task as task
@@ -15,14 +15,14 @@ use Rattle.cx_plain.specs.Run.{Config, running, passing, placed}
 use Rattle.cx_plain_state.specs.declared.answer.Answer.{Answer}
 use Rattle.cx_plain_state.specs.declared.state.State.{State}
 use Rattle.cx_plain_state.specs.Seen.{state_of, exception_of, answer_of, event_of}
-use Rattle.cx_mean.specs.declared.waiting.Waiting.{Waiting}
+use Rattle.cx_mean_parts.specs.declared.waiting.Waiting.{Waiting}
 use Rattle.cx_mean.specs.declared.run.Standing.{Standing}
 use Rattle.cx_mean.specs.declared.run.Standing.TheVariants as standings
 use Rattle.cx_mean.specs.declared.run.Stop.{Stop}
 use Rattle.cx_mean.specs.declared.run.Stop.TheVariants as stops
 use Rattle.cx_mean.specs.declared.run.Meaning.{Meaning}
-use Rattle.cx_mean.specs.Tasks.{task_of}
-use Rattle.cx_mean.specs.Frames.{given_of, left_of, frames_of}
+use Rattle.cx_mean_parts.specs.Tasks.{task_of}
+use Rattle.cx_mean_parts.specs.Frames.{given_of, left_of, frames_of}
 
 abbrev pub config_of : Table → Standing → List Waiting → Config
 config_of n (standings.Task t) stack = running (task_of n t) (frames_of n stack)

@@ -4,11 +4,11 @@ ghost use Rattle.cx_core.specs.Meaning.{start, globals_from};
 ghost use Rattle.cx_core.specs.View.{constant};
 ghost use Rattle.cx_core.specs.Operators as operators;
 ghost use Rattle.cx_plain_state.specs.Seen.{state_of, value_of, evaluation_of};
-ghost use Rattle.cx_mean.specs.Seen.{program_of};
+ghost use Rattle.cx_mean_parts.specs.Seen.{program_of};
 
-use crate::machine::Machine;
 use crate::run::Want;
 use cx_core::Constant;
+use cx_mean_parts::machine::Machine;
 use cx_plain_state::{Evaluation, Object, State, Value};
 use std::alloc::Global;
 
@@ -50,18 +50,16 @@ fn add_globals(alloc: Global, state: &mut State<'_>, globals: &[Constant]) -> Re
     }
 }
 
-impl<'p> Machine<'p> {
-    /// A run that has not begun: each global has its first value.
-    pub(crate) fn begin(
-        &self,
-        begins: &'p [Evaluation],
-        input: &'p [u8],
-        budget: u64,
-    ) -> Result<State<'p>, Want>
-        ensures { IfOk result (λ state. state_of state ≡ start (program_of self.now.program.now) (map evaluation_of begins.now) input.now budget) }
-    {
-        let mut state = State::new(self.alloc, begins, input, budget);
-        add_globals(self.alloc, &mut state, &self.program.globals)?;
-        Ok(state)
-    }
+/// A run that has not begun: each global has its first value.
+pub(crate) fn begin<'p>(
+    machine: &Machine<'p>,
+    begins: &'p [Evaluation],
+    input: &'p [u8],
+    budget: u64,
+) -> Result<State<'p>, Want>
+    ensures { IfOk result (λ state. state_of state ≡ start (program_of machine.now.program.now) (map evaluation_of begins.now) input.now budget) }
+{
+    let mut state = State::new(machine.alloc, begins, input, budget);
+    add_globals(machine.alloc, &mut state, &machine.program.globals)?;
+    Ok(state)
 }

@@ -8,15 +8,17 @@ ghost use Rattle.cx_plain.specs.Task as tasks;
 ghost use Rattle.cx_plain.specs.Run.{step_config, passing, first};
 ghost use Rattle.cx_plain_state.specs.Ran.{Ran};
 ghost use Rattle.cx_plain_state.specs.Seen.{state_of, answer_of, evaluation_of, exception_of};
-ghost use Rattle.cx_mean.specs.Seen.{Table, table_of, program_of};
-ghost use Rattle.cx_mean.specs.Frames.{next_of, frames_of, left_of, given_of};
+ghost use Rattle.cx_mean_parts.specs.Seen.{Table, table_of, program_of};
+ghost use Rattle.cx_mean_parts.specs.Frames.{next_of, frames_of, left_of, given_of};
 ghost use Rattle.cx_mean.specs.Runs.{config_of, Stands, Means, meaning_of, settled_from, left_outcome};
 
-use crate::machine::Machine;
-use crate::program::Program;
-use crate::task::{Call, CallTask, Task};
-use crate::waiting::{Given, Left, Next, Waiting};
+use crate::begin::begin;
+use crate::step::{given_step, task_step, thrown_step};
 use cx_code::{Ending, Kind};
+use cx_mean_parts::machine::Machine;
+use cx_mean_parts::program::Program;
+use cx_mean_parts::task::{Call, CallTask, Task};
+use cx_mean_parts::waiting::{Given, Left, Next, Waiting};
 use cx_plain_state::{Answer, Evaluation, Event, Exception, Halt, State, Value};
 use std::alloc::Global;
 
@@ -110,98 +112,100 @@ fn conclude(left: Left<'_>) -> Result<Answer, Want>
     }
 }
 
+/// The innermost frame takes what a part has given.
 #[tactic(auto, unfolding(cx_core::specs::Outcome::either, cx_core::specs::Outcome::gives))]
-impl<'p> Machine<'p> {
-    /// The innermost frame takes what a part has given.
-    fn pass_given(
-        &self,
-        state: &mut State<'p>,
-        stack: &mut Vec<Waiting<'p>>,
-        given: Given<'p>,
-    ) -> Result<Standing<'p>, Stop<'p>>
-        ensures { let p = self.now.program.now in let n = table_of p in Stands n (step_config (program_of p) (passing (tasks.given (given_of given.entry)) (frames_of n stack.old.items)) (state_of state.old)) result stack.new.items (state_of state.new) }
-    {
-        match stack.pop() {
-            Some(frame) => {
-                let next = self.given(state, frame, given);
-                settle(stack, next)
-            }
-            None => Err(Stop::Left(Left::Given(given))),
+fn pass_given<'p>(
+    machine: &Machine<'p>,
+    state: &mut State<'p>,
+    stack: &mut Vec<Waiting<'p>>,
+    given: Given<'p>,
+) -> Result<Standing<'p>, Stop<'p>>
+    ensures { let p = machine.now.program.now in let n = table_of p in Stands n (step_config (program_of p) (passing (tasks.given (given_of given.entry)) (frames_of n stack.old.items)) (state_of state.old)) result stack.new.items (state_of state.new) }
+{
+    match stack.pop() {
+        Some(frame) => {
+            let next = given_step(machine, state, frame, given);
+            settle(stack, next)
         }
+        None => Err(Stop::Left(Left::Given(given))),
     }
+}
 
-    /// An exception is thrown through the innermost frame.
-    fn pass_thrown(
-        &self,
-        state: &mut State<'p>,
-        stack: &mut Vec<Waiting<'p>>,
-        e: Exception,
-    ) -> Result<Standing<'p>, Stop<'p>>
-        ensures { let p = self.now.program.now in let n = table_of p in Stands n (step_config (program_of p) (passing (tasks.thrown (exception_of e)) (frames_of n stack.old.items)) (state_of state.old)) result stack.new.items (state_of state.new) }
-    {
-        match stack.pop() {
-            Some(frame) => {
-                let next = self.thrown(state, frame, e);
-                settle(stack, next)
-            }
-            None => Err(Stop::Left(Left::Thrown(e))),
+/// An exception is thrown through the innermost frame.
+#[tactic(auto, unfolding(cx_core::specs::Outcome::either, cx_core::specs::Outcome::gives))]
+fn pass_thrown<'p>(
+    machine: &Machine<'p>,
+    state: &mut State<'p>,
+    stack: &mut Vec<Waiting<'p>>,
+    e: Exception,
+) -> Result<Standing<'p>, Stop<'p>>
+    ensures { let p = machine.now.program.now in let n = table_of p in Stands n (step_config (program_of p) (passing (tasks.thrown (exception_of e)) (frames_of n stack.old.items)) (state_of state.old)) result stack.new.items (state_of state.new) }
+{
+    match stack.pop() {
+        Some(frame) => {
+            let next = thrown_step(machine, state, frame, e);
+            settle(stack, next)
         }
+        None => Err(Stop::Left(Left::Thrown(e))),
     }
+}
 
-    /// A step is taken.
-    fn step(
-        &self,
-        state: &mut State<'p>,
-        stack: &mut Vec<Waiting<'p>>,
-        at: Standing<'p>,
-    ) -> Result<Standing<'p>, Stop<'p>>
-        ensures { let p = self.now.program.now in let n = table_of p in Stands n (step_config (program_of p) (config_of n at.entry stack.old.items) (state_of state.old)) result stack.new.items (state_of state.new) }
-    {
-        match at {
-            Standing::Task(task) => {
-                let next = self.task(state, task);
-                settle(stack, next)
-            }
-            Standing::Left(Left::Given(given)) => self.pass_given(state, stack, given),
-            Standing::Left(Left::Thrown(e)) => self.pass_thrown(state, stack, e),
+/// A step is taken.
+#[tactic(auto, unfolding(cx_core::specs::Outcome::either, cx_core::specs::Outcome::gives))]
+fn step<'p>(
+    machine: &Machine<'p>,
+    state: &mut State<'p>,
+    stack: &mut Vec<Waiting<'p>>,
+    at: Standing<'p>,
+) -> Result<Standing<'p>, Stop<'p>>
+    ensures { let p = machine.now.program.now in let n = table_of p in Stands n (step_config (program_of p) (config_of n at.entry stack.old.items) (state_of state.old)) result stack.new.items (state_of state.new) }
+{
+    match at {
+        Standing::Task(task) => {
+            let next = task_step(machine, state, task);
+            settle(stack, next)
         }
+        Standing::Left(Left::Given(given)) => pass_given(machine, state, stack, given),
+        Standing::Left(Left::Thrown(e)) => pass_thrown(machine, state, stack, e),
     }
+}
 
-    /// The call of `main`.
-    fn first(&self) -> Standing<'p>
-        ensures { let p = self.now.program.now in config_of (table_of p) result [] ≡ first (program_of p) }
-    {
-        let arguments = Vec::new(self.alloc);
-        let call = Call {
-            function: self.program.main,
-            caller: None,
-            unit: 0,
-            reports: None,
-            arguments,
-            result: None,
+/// The call of `main`.
+#[tactic(auto, unfolding(cx_core::specs::Outcome::either, cx_core::specs::Outcome::gives))]
+fn first<'p>(machine: &Machine<'p>) -> Standing<'p>
+    ensures { let p = machine.now.program.now in config_of (table_of p) result [] ≡ first (program_of p) }
+{
+    let arguments = Vec::new(machine.alloc);
+    let call = Call {
+        function: machine.program.main,
+        caller: None,
+        unit: 0,
+        reports: None,
+        arguments,
+        result: None,
+    };
+    Standing::Task(Task::Call(CallTask::Counted(4096, call)))
+}
+
+/// The program is run from a state in which it has not begun.
+#[tactic(auto, unfolding(cx_core::specs::Outcome::either, cx_core::specs::Outcome::gives))]
+fn run<'p>(machine: &Machine<'p>, state: &mut State<'p>) -> Result<Answer, Want>
+    ensures { IfOk result (λ answer. Means (program_of machine.now.program.now) (state_of state.old) (answer_of answer) (state_of state.new)) }
+{
+    let mut stack = Vec::new(machine.alloc);
+    let mut at = first(machine);
+    for _step in 0..u64::MAX {
+        at = match step(machine, state, &mut stack, at) {
+            Ok(at) => at,
+            Err(Stop::Over(answer)) => return Ok(answer),
+            Err(Stop::Left(left)) => {
+                let answer = conclude(left)?;
+                return Ok(answer);
+            }
+            Err(Stop::Want) => return Err(Want::Means),
         };
-        Standing::Task(Task::Call(CallTask::Counted(4096, call)))
     }
-
-    /// The program is run from a state in which it has not begun.
-    fn run(&self, state: &mut State<'p>) -> Result<Answer, Want>
-        ensures { IfOk result (λ answer. Means (program_of self.now.program.now) (state_of state.old) (answer_of answer) (state_of state.new)) }
-    {
-        let mut stack = Vec::new(self.alloc);
-        let mut at = self.first();
-        for _step in 0..u64::MAX {
-            at = match self.step(state, &mut stack, at) {
-                Ok(at) => at,
-                Err(Stop::Over(answer)) => return Ok(answer),
-                Err(Stop::Left(left)) => {
-                    let answer = conclude(left)?;
-                    return Ok(answer);
-                }
-                Err(Stop::Want) => return Err(Want::Means),
-            };
-        }
-        Err(Want::Means)
-    }
+    Err(Want::Means)
 }
 
 /// What a program means: its events and its answer. `begins` are the evaluations of assertions that are told, in order;
@@ -217,8 +221,8 @@ pub fn mean_of<'p>(
     ensures { IfOk result (λ m. meaning_of m ≡ mean (program_of program.now) (map evaluation_of begins.now) input.now budget) }
 {
     let machine = Machine { alloc, program };
-    let mut state = machine.begin(begins, input, budget)?;
-    let answer = machine.run(&mut state)?;
+    let mut state = begin(&machine, begins, input, budget)?;
+    let answer = run(&machine, &mut state)?;
     let State { trace, .. } = state;
     Ok(Meaning { trace, answer })
 }

@@ -141,6 +141,16 @@ impl Build {
         Ok(Expression::CallThrough(gives, self.boxed(pointer)?, arguments?))
     }
 
+    /// The temporary of a class that a call of what a pointer holds gives.
+    pub fn temporary_through(
+        self,
+        class: u32,
+        pointer: Made<Operand>,
+        arguments: Made<Vec<Argument>>,
+    ) -> Made<Expression> {
+        Ok(Expression::TemporaryThrough(class, self.boxed(pointer)?, arguments?))
+    }
+
     /// A temporary of class type.
     pub fn temporary(self, of: ValueType, init: Made<Initializer>) -> Made<Expression> {
         Ok(Expression::Temporary(of, self.boxed(init)?))

@@ -308,7 +308,8 @@ fn made_of(b: Build, byte: u8) -> Made<Initializer> {
 ///   C (*p)(int) = make; C c = p('a'); int v = p('b').n; v = take(p('c')); return v; }
 /// ```
 pub fn making_through_a_pointer(b: Build) -> Made<Program> {
-    let n = b.read_int(b.member(0, b.temporary(class(0), made_of(b, b'b'))));
+    let of_b = b.temporary_through(0, b.pointer_in(0, 0), one_int(b, b.character(b'b')));
+    let n = b.read_int(b.member(0, of_b));
     let taken = b.called(5, b.list([b.by_value(class(0), made_of(b, b'c'))]));
     let main = b.main(b.list([
         b.declare_pointer(0, 0, b.named(4)),
@@ -320,6 +321,20 @@ pub fn making_through_a_pointer(b: Build) -> Made<Program> {
     let own_number = b.read_int(b.member(0, b.variable(0)));
     let take = b.function(ResultKind::ScalarValue, b.list([b.returns(own_number)]));
     with_make(b, main, take)
+}
+
+/// ```cpp
+/// #include <cstdio>
+/// struct C { int n; C(int k) : n(k) {} ~C() { putchar(n); } };
+/// C make(int k) { return C(k); }
+/// int f(int x) { return x; }
+/// int main() { return (f(1) ? make : make)('b').n; }
+/// ```
+pub fn making_a_temporary_behind_the_pointer(b: Build) -> Made<Program> {
+    let chosen = b.conditional(b.called(5, one_int(b, b.number(1))), b.named(4), b.named(4));
+    let made = b.temporary_through(0, b.as_is(chosen), one_int(b, b.character(b'b')));
+    let main = b.main(b.list([b.returns(b.read_int(b.member(0, made)))]));
+    with_make(b, main, same_number(b))
 }
 
 /// ```cpp

@@ -126,6 +126,14 @@ pub const ROWS: &[Row] = &[
                returned 99\n",
         ..PLAIN
     },
+    // the parameter of `f` is object 1, the temporary 2, the parameter of `make` 3
+    Row {
+        of: Worked::MakingATemporaryBehindThePointer,
+        told: "out 98\n\
+               destroyed C 2 0\n\
+               returned 98\n",
+        ..PLAIN
+    },
     // the pointer is evaluated before the result is made: the fourth unit is the byte's
     Row {
         of: Worked::ChoosingWhatIsCalled,

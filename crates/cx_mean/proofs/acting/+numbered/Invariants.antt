@@ -1,5 +1,0 @@
-use Rattle.std.proofs.Common.{length}
-use Rattle.cx_mean.proofs.acting.+numbered.Given as goal
-
-abbrev pub decreases-numbered : goal.decreases-numbered
-decreases-numbered l = length l.arguments.now

@@ -1,6 +1,0 @@
-use Rattle.cx_core.specs.Outcome.{either, current_living, set_living}
-use Rattle.cx_mean.proofs.machine.Machine.acting_default.Goals as goal
-
-pub returns : goal.returns
-unfolding either current_living set_living
-returns c = λ f call. rw (← c.enter_construction-constructing.ensures.entered, ← c.enter_construction-constructing.ensures.frame) c.default_under.ensures

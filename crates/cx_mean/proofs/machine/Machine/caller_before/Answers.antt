@@ -1,6 +1,0 @@
-use Rattle.cx_core.specs.Outcome.{either, current_frame, set_frame}
-use Rattle.cx_mean.proofs.machine.Machine.caller_before.Goals as goal
-
-pub returns-in_ok-within-in-Some : goal.returns-in_ok-within-in-Some
-unfolding either current_frame set_frame
-returns-in_ok-within-in-Some c = rw (c.in-Some.is, ← c.in_ok-within-in-Some.ensures.entered, ← c.in_ok-within-in-Some.ensures.frame, ← c.caller_preconditions.ensures) c.under.ensures

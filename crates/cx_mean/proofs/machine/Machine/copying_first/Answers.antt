@@ -1,6 +1,0 @@
-use Rattle.std.proofs.lemmas.Result.{err_from_is_err_and}
-use Rattle.cx_plain_state.proofs.Parts.{ran}
-use Rattle.cx_mean.proofs.machine.Machine.copying_first.Goals as goal
-
-pub returns-in_err-this : goal.returns-in_err-this
-returns-in_err-this c = let p = err_from_is_err_and c.from_residual.result c.from_residual.ensures.1 in rw (p.1, p.2) (search (ran, c.in_err-this.ensures) depth 12)

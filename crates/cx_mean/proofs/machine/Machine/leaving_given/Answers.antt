@@ -1,6 +1,0 @@
-use Rattle.cx_mean.proofs.machine.Machine.leaving_given.Goals as goal
-
-pub returns-in-Holding : goal.returns-in-Holding
-returns-in-Holding c =
-    let e = rw c.deref.ensures.value at c.is_among-among.ensures in
-    rw (c.in-Holding.is, ← e) c.leave_handler.ensures

@@ -1,7 +1,0 @@
-use Rattle.cx_core.specs.Outcome.{either}
-use Rattle.cx_mean.specs.Seen.{table_of}
-use Rattle.cx_mean.proofs.machine.Machine.operand_value.Goals as goal
-
-pub returns-in-Operate : goal.returns-in-Operate
-unfolding either
-returns-in-Operate c = rw c.in-Operate.is (c.valued.ensures (table_of c.args.self.now.program.now) _ _ c.applied.ensures)

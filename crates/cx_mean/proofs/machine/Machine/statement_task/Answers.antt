@@ -1,7 +1,0 @@
-use Rattle.cx_mean.proofs.machine.Machine.statement_task.Goals as goal
-
-pub returns-in-Block : goal.returns-in-Block
-returns-in-Block c = rw c.in-Block.is c.block.ensures
-
-pub returns-in-Turns : goal.returns-in-Turns
-returns-in-Turns c = rw c.in-Turns.is c.turns.ensures

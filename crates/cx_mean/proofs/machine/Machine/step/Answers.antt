@@ -1,7 +1,0 @@
-use Rattle.cx_core.specs.Outcome.{either}
-use Rattle.cx_mean.specs.Seen.{table_of}
-use Rattle.cx_mean.proofs.machine.Machine.step.Goals as goal
-
-pub returns-in-Task : goal.returns-in-Task
-unfolding either
-returns-in-Task c = rw c.in-Task.is (c.settle.ensures (table_of c.args.self.now.program.now) _ _ c.task-next.ensures)

@@ -1,7 +1,0 @@
-use Rattle.cx_core.specs.Outcome.{either}
-use Rattle.cx_mean.specs.Seen.{table_of}
-use Rattle.cx_mean.proofs.machine.Machine.verdict.Goals as goal
-
-pub returns-then-holds : goal.returns-then-holds
-unfolding either
-returns-then-holds c = rw c.if-holds.true (c.silent.ensures (table_of c.args.self.now.program.now) _ _ c.append.ensures)

@@ -1,0 +1,6 @@
+use Rattle.cx_core.specs.Outcome.{either, current_living, set_living}
+use Rattle.cx_mean_calls.proofs.calls.call_of.Goals as goal
+
+pub returns : goal.returns
+unfolding either current_living set_living
+returns c = rw (← c.enter_scope-scope.ensures.entered, ← c.enter_scope-scope.ensures.frame, ← c.in_ok-frames.ensures) c.under_all.ensures

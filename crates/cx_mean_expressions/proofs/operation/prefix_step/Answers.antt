@@ -1,0 +1,9 @@
+use Rattle.std.proofs.lemmas.Result.{err_from_is_err_and}
+use Rattle.cx_plain_state.proofs.Parts.{ran}
+use Rattle.cx_mean_expressions.proofs.operation.prefix_step.Goals as goal
+
+pub returns-in_err-spend : goal.returns-in_err-spend
+returns-in_err-spend c = let p = err_from_is_err_and c.from_residual.result c.from_residual.ensures.1 in rw (p.1, p.2) (search (ran, c.in_err-spend.ensures) depth 12)
+
+pub returns-in_err-step : goal.returns-in_err-step
+returns-in_err-step c = let p = err_from_is_err_and c.from_residual-in_err-step.result c.from_residual-in_err-step.ensures.1 in rw (p.1, p.2) (search (ran, c.in_ok-spend.ensures, c.in_err-step.ensures) depth 12)

@@ -1,0 +1,6 @@
+use Rattle.std.proofs.lemmas.Result.{err_from_is_err_and}
+use Rattle.cx_plain_state.proofs.Parts.{ran}
+use Rattle.cx_mean_objects.proofs.ending.end_whole.Goals as goal
+
+pub returns-in_err-end_lifetime : goal.returns-in_err-end_lifetime
+returns-in_err-end_lifetime c = let p = err_from_is_err_and c.from_residual.result c.from_residual.ensures.1 in rw (p.1, p.2) (search (ran, c.in_err-end_lifetime.ensures) depth 12)

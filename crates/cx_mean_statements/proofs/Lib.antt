@@ -1,0 +1,2 @@
+pub mod OpenedStatement
+pub mod Passes
