@@ -8,3 +8,4 @@ pub mod Numbered
 mod LargerBudget
 mod Budget
 mod RowsTaken
+mod Apart

@@ -22,3 +22,4 @@ pub mod Linked
 pub mod Weight
 pub mod Explained
 pub mod Laws
+pub mod Apart

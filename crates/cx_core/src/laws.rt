@@ -1,4 +1,5 @@
 //! Laws of the meaning. Each function does nothing: its contract is the law.
+ghost use Rattle.cx_core.specs.Apart.{LinkingKeepsApart};
 ghost use Rattle.cx_core.specs.Block.{TakenAreTheRows};
 ghost use Rattle.cx_core.specs.Laws.{BeginsAreTheFirstTold, InputIsReadInOrder, NoBudgetSaysNothing, LargerBudgetChangesNoEnding, LargerBudgetOnlyAddsEvents, ObjectsStayNumbered};
 
@@ -37,4 +38,10 @@ pub fn no_budget_says_nothing()
 /// as it is owed, none stands before an earlier one that is to stand and has not stood yet, and no other stands.
 pub fn taken_are_the_rows()
     ensures { TakenAreTheRows }
+{}
+
+/// The numbers that linking gives to the functions, types of functions, classes and globals of a unit differ where their
+/// places in the unit's tables do, also for places that a table lacks.
+pub fn linking_keeps_apart()
+    ensures { LinkingKeepsApart }
 {}
