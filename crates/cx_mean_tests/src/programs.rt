@@ -159,7 +159,8 @@ impl Worked {
             Worked::InitialisedByItself => forms::initialised_by_itself(b),
             Worked::InlineMember => classes::inline_member(b),
             Worked::MakingThroughAPointer => pointers::making_through_a_pointer(b),
-            Worked::MakingATemporaryBehindThePointer => pointers::making_a_temporary_behind_the_pointer(b),
+            Worked::MakingATemporaryBehindThePointer =>
+                pointers::making_a_temporary_behind_the_pointer(b),
             Worked::MemberOfTheDead => lifetimes::member_of_the_dead(b),
             Worked::NamingAMemberAlone => classes::naming_a_member_alone(b),
             Worked::NumberingResults => pointers::numbering_results(b),

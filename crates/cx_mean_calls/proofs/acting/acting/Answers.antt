@@ -22,6 +22,6 @@ returns-in-Constructor c =
     let n = table_of c.args.machine.now.program.now in
     let constructed = rw (c.deref-in-Constructor.ensures.value, c.deref-in-Constructor-2.ensures.value) at c.acting_constructor.ensures in
     subst
-      (λ body. Ran (next_of n) (step_acting p (level_of c.args.level) (body_of n body) (function_of n c.args.f.now) (call_of c.args.c) (frames_of n c.args.frames.items) (state_of c.args.state.now)) c.acting_constructor.result (state_of c.acting_constructor.new.state))
-      (sym c.in-Constructor.is)
-      constructed
+    (λ body. Ran (next_of n) (step_acting p (level_of c.args.level) (body_of n body) (function_of n c.args.f.now) (call_of c.args.c) (frames_of n c.args.frames.items) (state_of c.args.state.now)) c.acting_constructor.result (state_of c.acting_constructor.new.state))
+    (sym c.in-Constructor.is)
+    constructed
