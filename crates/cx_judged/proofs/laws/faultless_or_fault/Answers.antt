@@ -1,0 +1,5 @@
+use Rattle.cx_judged.proofs.Grammars as law
+use Rattle.cx_judged.proofs.laws.faultless_or_fault.Goals as goal
+
+pub returns : goal.returns
+returns c = law.faultless_or_fault
