@@ -16,7 +16,7 @@ use Rattle.cx_includes.specs.Parts.{IsReading}
 use Rattle.cx_includes.specs.Place.{column_at}
 use Rattle.cx_includes.specs.Unit.{IsAssembled, IsTakenAlready, Opens, Taken, Takes, longest_file_name, most_bytes, most_open, nothing_taken, opened, with_contracts, with_cstdio, with_token}
 use Rattle.cx_includes.specs.Fault.{Fails, IsAtFault, IsFirstFault}
-use Rattle.cx_judged.proofs.Pieces.{at_most_or_more}
+use Rattle.cx_judged.proofs.Choices.{at_most_or_more}
 use Rattle.cx_judged.proofs.Readings.{reading}
 use Rattle.cx_judged.proofs.Once.{already_decided}
 

@@ -15,7 +15,7 @@ use Rattle.cx_parser.proofs.Reached.{at_first, reads, reads_end}
 use Rattle.cx_faults.specs.declared.fault.ListFault.TheVariants as faults
 use Rattle.cx_faults.specs.Faults.{IsListFault, marks_of, most_open, open_count, place_of}
 use Rattle.cx_judged.specs.Laws.{FaultlessHasNoFault, FaultlessHasTree, FaultlessOrFault}
-use Rattle.cx_judged.proofs.Pieces.{at_most_or_more}
+use Rattle.cx_judged.proofs.Choices.{at_most_or_more}
 use Rattle.cx_judged.proofs.Settling.{settles}
 
 module _ (ts : Marks) where
@@ -60,7 +60,7 @@ pub faultless_has_no_fault : FaultlessHasNoFault
 faultless_has_no_fault list fault faultless (IsListFault.opened many) = let shallow = faultless.shallow in omega arith
 faultless_has_no_fault list fault faultless (IsListFault.syntax shallow place is) = is.0 faultless.grammatical
 
-one_tree : (ts : Marks) → Grammatical ts → (tree : UnitTree) × IsTree ts tree
+pub one_tree : (ts : Marks) → Grammatical ts → (tree : UnitTree) × IsTree ts tree
 one_tree ts (tree, shaped, spells) = (tree, (shaped, spells, λ other is spelled. at_most_one_tree ts other tree is shaped spelled spells))
 
 pub faultless_has_tree : FaultlessHasTree

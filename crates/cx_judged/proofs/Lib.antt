@@ -1,3 +1,4 @@
+pub mod Choices
 pub mod Pieces
 pub mod Lines
 pub mod Readings
@@ -6,3 +7,5 @@ pub mod Assemblies
 pub mod Lists
 pub mod Settling
 pub mod Grammars
+pub mod Statements
+pub mod Units

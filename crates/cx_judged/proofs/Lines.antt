@@ -14,11 +14,7 @@ use Rattle.cx_includes.specs.Place.{line_at}
 use Rattle.cx_includes.specs.Stretch.{IsFileForm, IsForm}
 use Rattle.cx_includes.proofs.Forms.{file_form_found, file_form_length, file_form_quote, file_form_starts, form_contracts, form_cstdio, form_ends, form_file, form_from, form_once, form_starts, no_form}
 use Rattle.cx_includes.proofs.Stretches.{no_spliced_directive}
-use Rattle.cx_judged.proofs.Pieces.{none_or_some}
-
--- a fact, or its denial
-abbrev pub Decided : Type 0 → Type 0
-Decided P = P ⊎ (P → ⊥)
+use Rattle.cx_judged.proofs.Choices.{Decided, none_or_some}
 
 form_decided : (bytes line : List ℕ) → Decided (IsForm bytes line)
 form_decided bytes line =

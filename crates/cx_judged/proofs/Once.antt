@@ -13,7 +13,7 @@ use Rattle.cx_includes.specs.Unit.{HoldsOnce, IsTakenAlready, Taken}
 use Rattle.cx_includes.specs.Parts.{IsReading}
 use Rattle.cx_includes.specs.Taking.{HasOnce}
 use Rattle.cx_includes.proofs.OneReading.{one_reading}
-use Rattle.cx_judged.proofs.Lines.{Decided}
+use Rattle.cx_judged.proofs.Choices.{Decided}
 use Rattle.cx_judged.proofs.Readings.{reading}
 
 -- ---- a name among others

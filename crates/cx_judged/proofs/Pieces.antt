@@ -1,6 +1,5 @@
 -- At each place of a text there stands a blank, a comment, a token or a fault.
-use Rattle.std.proofs.Common.{◌≡◌, ◌||◌, true, false, ℕ, ◌+◌, ◌<◌, ◌≤◌, List, Option, Some, None, length, take, drop, get_or, eqb, refl, sym, ◌∙◌, ap, arith, ⊎_elim}
-use Rattle.std.specs.Prelude.{◌⊎◌}
+use Rattle.std.proofs.Common.{◌≡◌, ◌||◌, true, false, ℕ, ◌+◌, ◌<◌, List, Option, Some, None, length, take, drop, get_or, eqb, refl, sym, ◌∙◌, ap, ⊎_elim}
 use Rattle.std.specs.List.{prefix_len}
 use Rattle.std.proofs.lemmas.Bool.{cases_Bool, eqb-true, true≢false}
 use Rattle.cx_syntax.specs.declared.token.TokenKind.TheVariants as kinds
@@ -17,12 +16,7 @@ use Rattle.cx_lexer.specs.Scan.{char_length, hides_from, number_length, punct_le
 use Rattle.cx_lexer.proofs.Comments.{hidden, hides_complete}
 use Rattle.cx_lexer.proofs.Lexemes.{at_else, sort_of}
 use Rattle.cx_lexer.proofs.Pieces.{blank_stands, block_stands, char_stands, hidden_stands, line_stands, long_stands, name_stands, none_stands, number_stands, open_char_stands, open_stands, open_text_stands, punct_stands, runs_stands, spliced_stands, text_stands, wide_stands, word_stands}
-
-pub none_or_some : (n : ℕ) → (n ≡ 0) ⊎ (0 < n)
-none_or_some n = grind arith
-
-pub at_most_or_more : (n m : ℕ) → (n ≤ m) ⊎ (m < n)
-at_most_or_more n m = grind arith
+use Rattle.cx_judged.proofs.Choices.{at_most_or_more, none_or_some}
 
 module _ (rest : List ℕ) (at : ℕ) where
   abbrev Standing : Type 0

@@ -17,7 +17,8 @@ use Rattle.cx_includes.specs.Parts.{fault_place, IsLine, IsReading, ReadsTo}
 use Rattle.cx_includes.specs.Place.{spot_at}
 use Rattle.cx_includes.specs.Stretch.{Holds}
 use Rattle.cx_includes.proofs.Stretches.{blank_fits, part_fits, reads_blank, reads_last, reads_part}
-use Rattle.cx_judged.proofs.Pieces.{at_most_or_more, something_stands}
+use Rattle.cx_judged.proofs.Choices.{at_most_or_more}
+use Rattle.cx_judged.proofs.Pieces.{something_stands}
 use Rattle.cx_judged.proofs.Lines.{line_stands}
 
 module _ (text : List ℕ) where

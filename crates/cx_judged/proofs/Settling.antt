@@ -32,212 +32,210 @@ by_test true u v x y = x
 by_test false u v x y = y
 
 module _ (k : List Symbol) (w : ℕ) where
-  f_assign : (o : Option Mark) → Falls k w (assign_move o)
-  f_assign (Some (M.Punct p)) = by_test (is_assign p) _ _ Falls.eats Falls.eats
-  f_assign other = Falls.halts
+  assign_falls : (o : Option Mark) → Falls k w (assign_move o)
+  assign_falls (Some (M.Punct p)) = by_test (is_assign p) _ _ Falls.eats Falls.eats
+  assign_falls other = Falls.halts
 
-  f_post : (o : Option Mark) → Falls k w (post_move o)
-  f_post (Some (M.Punct p)) = by_test (is_step p) _ _ Falls.eats (by_test (is_member p) _ _ Falls.eats (by_test (same_punct P.OpenParen p) _ _ Falls.eats Falls.halts))
-  f_post other = Falls.halts
+  post_falls : (o : Option Mark) → Falls k w (post_move o)
+  post_falls (Some (M.Punct p)) = by_test (is_step p) _ _ Falls.eats (by_test (is_member p) _ _ Falls.eats (by_test (same_punct P.OpenParen p) _ _ Falls.eats Falls.halts))
+  post_falls other = Falls.halts
 
-  f_static : (word : Word) → Falls k w (static_move word)
-  f_static W.StaticCast = Falls.eats
-  f_static other = Falls.halts
+  static_falls : (word : Word) → Falls k w (static_move word)
+  static_falls W.StaticCast = Falls.eats
+  static_falls other = Falls.halts
 
-  f_primary : (m : Mark) → Falls k w (primary_move m)
-  f_primary (M.Class n) = Falls.eats
-  f_primary M.Std = Falls.eats
-  f_primary (M.Word word) = by_test (is_cast word) _ _ Falls.eats (f_static word)
-  f_primary (M.Punct p) = by_test (same_punct P.OpenParen p) _ _ Falls.eats Falls.halts
-  f_primary other = Falls.halts
+  primary_falls : (m : Mark) → Falls k w (primary_move m)
+  primary_falls (M.Class n) = Falls.eats
+  primary_falls M.Std = Falls.eats
+  primary_falls (M.Word word) = by_test (is_cast word) _ _ Falls.eats (static_falls word)
+  primary_falls (M.Punct p) = by_test (same_punct P.OpenParen p) _ _ Falls.eats Falls.halts
+  primary_falls other = Falls.halts
 
-  f_std : (o : Option Mark) → Falls k w (std_move o)
-  f_std (Some (M.Name n)) = by_test (eqb n contracts_name) _ _ Falls.eats Falls.eats
-  f_std (Some (M.Class n)) = by_test (eqb n contracts_name) _ _ Falls.eats Falls.halts
-  f_std other = Falls.halts
+  std_falls : (o : Option Mark) → Falls k w (std_move o)
+  std_falls (Some (M.Name n)) = by_test (eqb n contracts_name) _ _ Falls.eats Falls.eats
+  std_falls (Some (M.Class n)) = by_test (eqb n contracts_name) _ _ Falls.eats Falls.halts
+  std_falls other = Falls.halts
 
-  f_base : (o : Option Mark) → Falls k w (base_move o)
-  f_base (Some (M.Class n)) = Falls.eats
-  f_base (Some M.Std) = Falls.eats
-  f_base (Some (M.Word W.Unsigned)) = Falls.eats
-  f_base (Some (M.Word W.Long)) = Falls.eats
-  f_base (Some (M.Word word)) = base (is_word_base word)
+  base_falls : (o : Option Mark) → Falls k w (base_move o)
+  base_falls (Some (M.Class n)) = Falls.eats
+  base_falls (Some M.Std) = Falls.eats
+  base_falls (Some (M.Word W.Unsigned)) = Falls.eats
+  base_falls (Some (M.Word W.Long)) = Falls.eats
+  base_falls (Some (M.Word word)) = base (is_word_base word)
     where
       base : (b : Bool) → Falls k w (cond b (eat (Make DoWordBase ∷ [])) halt)
       base true = Falls.eats
       base false = Falls.halts
+  base_falls other = Falls.halts
 
-  f_base other = Falls.halts
+  simple_std_falls : (o : Option Mark) → Falls k w (simple_std o)
+  simple_std_falls (Some (M.Name n)) = by_test (eqb n contracts_name) _ _ Falls.eats Falls.eats
+  simple_std_falls (Some (M.Class n)) = by_test (eqb n contracts_name) _ _ Falls.eats Falls.halts
+  simple_std_falls other = Falls.halts
 
-  f_simple_std : (o : Option Mark) → Falls k w (simple_std o)
-  f_simple_std (Some (M.Name n)) = by_test (eqb n contracts_name) _ _ Falls.eats Falls.eats
-  f_simple_std (Some (M.Class n)) = by_test (eqb n contracts_name) _ _ Falls.eats Falls.halts
-  f_simple_std other = Falls.halts
+  simple_other_falls : (m : Mark) → Falls k w (simple_other m)
+  simple_other_falls M.Std = Falls.eats
+  simple_other_falls (M.Punct P.Semicolon) = Falls.eats
+  simple_other_falls other = Falls.halts
 
-  f_simple_other : (m : Mark) → Falls k w (simple_other m)
-  f_simple_other M.Std = Falls.eats
-  f_simple_other (M.Punct P.Semicolon) = Falls.eats
-  f_simple_other other = Falls.halts
+  class_falls : (o : Option Mark) → Falls k w (class_move o)
+  class_falls (Some (M.Punct P.Semicolon)) = Falls.eats
+  class_falls (Some (M.Punct P.OpenBrace)) = Falls.eats
+  class_falls other = Falls.halts
 
-  f_class : (o : Option Mark) → Falls k w (class_move o)
-  f_class (Some (M.Punct P.Semicolon)) = Falls.eats
-  f_class (Some (M.Punct P.OpenBrace)) = Falls.eats
-  f_class other = Falls.halts
+  special_falls : (o : Option Mark) → Falls k w (special_move o)
+  special_falls (Some (M.Class n)) = Falls.eats
+  special_falls (Some (M.Punct P.Tilde)) = Falls.eats
+  special_falls other = Falls.halts
 
-  f_special : (o : Option Mark) → Falls k w (special_move o)
-  f_special (Some (M.Class n)) = Falls.eats
-  f_special (Some (M.Punct P.Tilde)) = Falls.eats
-  f_special other = Falls.halts
+  type_falls : (b : Bool) (o : Option Mark) → Falls k w (type_move b o)
+  type_falls b (Some (M.Name n)) = Falls.eats
+  type_falls b (Some (M.Class n)) = Falls.eats
+  type_falls b other = Falls.halts
 
-  f_type : (b : Bool) (o : Option Mark) → Falls k w (type_move b o)
-  f_type b (Some (M.Name n)) = Falls.eats
-  f_type b (Some (M.Class n)) = Falls.eats
-  f_type b other = Falls.halts
-
-  f_constant : (o : Option Mark) → Falls k w (constant_move o)
-  f_constant (Some (M.Punct P.Minus)) = Falls.eats
-  f_constant (Some m) = plain (is_constant m)
+  constant_falls : (o : Option Mark) → Falls k w (constant_move o)
+  constant_falls (Some (M.Punct P.Minus)) = Falls.eats
+  constant_falls (Some m) = plain (is_constant m)
     where
       plain : (b : Bool) → Falls k w (cond b (eat (Make DoPlainConstant ∷ [])) halt)
       plain true = Falls.eats
       plain false = Falls.halts
-
-  f_constant None = Falls.halts
+  constant_falls None = Falls.halts
 
 module _ (k : List Symbol) where
-  f_unsigned : (o : Option Mark) → Falls k (4 + wait k) (unsigned_move o)
-  f_unsigned (Some (M.Word W.Int)) = Falls.eats
-  f_unsigned (Some (M.Word W.Long)) = Falls.eats
-  f_unsigned other = Falls.falls (omega arith)
+  unsigned_falls : (o : Option Mark) → Falls k (4 + wait k) (unsigned_move o)
+  unsigned_falls (Some (M.Word W.Int)) = Falls.eats
+  unsigned_falls (Some (M.Word W.Long)) = Falls.eats
+  unsigned_falls other = Falls.falls (omega arith)
 
-  f_simple : (m : Mark) → Falls k 15 (simple_move m)
-  f_simple m = by_test (is_free m) _ _ (Falls.falls (omega arith)) (by_test (is_type_start m) _ _ (Falls.falls (omega arith)) (f_simple_other k 15 m))
+  simple_falls : (m : Mark) → Falls k 15 (simple_move m)
+  simple_falls m = by_test (is_free m) _ _ (Falls.falls (omega arith)) (by_test (is_type_start m) _ _ (Falls.falls (omega arith)) (simple_other_falls k 15 m))
 
-  f_stmt : (o : Option Mark) → Falls k 16 (stmt_move o)
-  f_stmt (Some (M.Word W.If)) = Falls.eats
-  f_stmt (Some (M.Word W.While)) = Falls.eats
-  f_stmt (Some (M.Word W.For)) = Falls.eats
-  f_stmt (Some (M.Word W.Return)) = Falls.eats
-  f_stmt (Some (M.Word W.Break)) = Falls.eats
-  f_stmt (Some (M.Word W.Continue)) = Falls.eats
-  f_stmt (Some (M.Word W.Throw)) = Falls.eats
-  f_stmt (Some (M.Word W.Try)) = Falls.eats
-  f_stmt (Some (M.Word W.ContractAssert)) = Falls.eats
-  f_stmt (Some (M.Punct P.OpenBrace)) = Falls.falls (omega arith)
-  f_stmt other = Falls.falls (omega arith)
+  stmt_falls : (o : Option Mark) → Falls k 16 (stmt_move o)
+  stmt_falls (Some (M.Word W.If)) = Falls.eats
+  stmt_falls (Some (M.Word W.While)) = Falls.eats
+  stmt_falls (Some (M.Word W.For)) = Falls.eats
+  stmt_falls (Some (M.Word W.Return)) = Falls.eats
+  stmt_falls (Some (M.Word W.Break)) = Falls.eats
+  stmt_falls (Some (M.Word W.Continue)) = Falls.eats
+  stmt_falls (Some (M.Word W.Throw)) = Falls.eats
+  stmt_falls (Some (M.Word W.Try)) = Falls.eats
+  stmt_falls (Some (M.Word W.ContractAssert)) = Falls.eats
+  stmt_falls (Some (M.Punct P.OpenBrace)) = Falls.falls (omega arith)
+  stmt_falls other = Falls.falls (omega arith)
 
-  f_name : (o : Option Mark) → Falls k (4 + wait k) (name_move o)
-  f_name (Some (M.Name n)) = Falls.eats
-  f_name other = Falls.falls (omega arith)
+  name_falls : (o : Option Mark) → Falls k (4 + wait k) (name_move o)
+  name_falls (Some (M.Name n)) = Falls.eats
+  name_falls other = Falls.falls (omega arith)
 
-  f_specs : (o : Option ℕ) → Falls k (4 + wait k) (specs_move o)
-  f_specs (Some n) = by_test (eqb n pre_name) _ _ Falls.eats (by_test (eqb n post_name) _ _ Falls.eats (Falls.falls (omega arith)))
-  f_specs None = Falls.falls (omega arith)
+  specs_falls : (o : Option ℕ) → Falls k (4 + wait k) (specs_move o)
+  specs_falls (Some n) = by_test (eqb n pre_name) _ _ Falls.eats (by_test (eqb n post_name) _ _ Falls.eats (Falls.falls (omega arith)))
+  specs_falls None = Falls.falls (omega arith)
 
-  f_post_rest : (o : Option Mark) → Falls k 15 (post_rest o)
-  f_post_rest (Some (M.Name n)) = Falls.eats
-  f_post_rest other = Falls.falls (omega arith)
+  post_rest_falls : (o : Option Mark) → Falls k 15 (post_rest o)
+  post_rest_falls (Some (M.Name n)) = Falls.eats
+  post_rest_falls other = Falls.falls (omega arith)
 
-  f_member_word : (word : Word) → Falls k 10 (member_word word)
-  f_member_word W.Public = Falls.eats
-  f_member_word W.Private = Falls.eats
-  f_member_word W.Virtual = Falls.eats
-  f_member_word W.Explicit = Falls.eats
-  f_member_word other = Falls.falls (omega arith)
+  member_word_falls : (word : Word) → Falls k 10 (member_word word)
+  member_word_falls W.Public = Falls.eats
+  member_word_falls W.Private = Falls.eats
+  member_word_falls W.Virtual = Falls.eats
+  member_word_falls W.Explicit = Falls.eats
+  member_word_falls other = Falls.falls (omega arith)
 
-  f_member : (o : Option Mark) → Falls k 10 (member_move o)
-  f_member (Some (M.Word word)) = f_member_word word
-  f_member (Some (M.Punct P.Tilde)) = Falls.falls (omega arith)
-  f_member other = Falls.falls (omega arith)
+  member_falls : (o : Option Mark) → Falls k 10 (member_move o)
+  member_falls (Some (M.Word word)) = member_word_falls word
+  member_falls (Some (M.Punct P.Tilde)) = Falls.falls (omega arith)
+  member_falls other = Falls.falls (omega arith)
 
-  f_member_rest : (o : Option Mark) → Falls k 8 (member_rest o)
-  f_member_rest (Some (M.Class n)) = Falls.eats
-  f_member_rest other = Falls.falls (omega arith)
+  member_rest_falls : (o : Option Mark) → Falls k 8 (member_rest o)
+  member_rest_falls (Some (M.Class n)) = Falls.eats
+  member_rest_falls other = Falls.falls (omega arith)
 
-  f_item_word : (word : Word) → Falls k 10 (item_word word)
-  f_item_word W.Class = Falls.eats
-  f_item_word W.Struct = Falls.eats
-  f_item_word W.Extern = Falls.eats
-  f_item_word W.Inline = Falls.eats
-  f_item_word other = Falls.falls (omega arith)
+  item_word_falls : (word : Word) → Falls k 10 (item_word word)
+  item_word_falls W.Class = Falls.eats
+  item_word_falls W.Struct = Falls.eats
+  item_word_falls W.Extern = Falls.eats
+  item_word_falls W.Inline = Falls.eats
+  item_word_falls other = Falls.falls (omega arith)
 
-  f_item : (o : Option Mark) → Falls k 10 (item_move o)
-  f_item (Some (M.Word word)) = f_item_word word
-  f_item other = Falls.falls (omega arith)
+  item_falls : (o : Option Mark) → Falls k 10 (item_move o)
+  item_falls (Some (M.Word word)) = item_word_falls word
+  item_falls other = Falls.falls (omega arith)
 
-  f_declaration : (b : Bool) (o : Option Mark) → Falls k 8 (declaration_move b o)
-  f_declaration b (Some (M.Class n)) = Falls.eats
-  f_declaration b other = Falls.falls (omega arith)
+  declaration_falls : (b : Bool) (o : Option Mark) → Falls k 8 (declaration_move b o)
+  declaration_falls b (Some (M.Class n)) = Falls.eats
+  declaration_falls b other = Falls.falls (omega arith)
 
-  f_global : (b : Bool) (o : Option Mark) → Falls k 4 (global_move b o)
-  f_global true o = by_test (is_mark P.Assign o) _ _ Falls.eats (Falls.falls (omega arith))
-  f_global false o = Falls.halts
+  global_falls : (b : Bool) (o : Option Mark) → Falls k 4 (global_move b o)
+  global_falls true o = by_test (is_mark P.Assign o) _ _ Falls.eats (Falls.falls (omega arith))
+  global_falls false o = Falls.halts
 
-  less : (x : Part) (o : Option Mark) → Falls k (wait (Read x ∷ k)) (move x o)
-  less Assign o = Falls.falls (omega arith)
-  less AssignTail o = by_test (eqb (loose o) 11) _ _ (f_assign k (4 + wait k) o) (Falls.falls (omega arith))
-  less Cond o = Falls.falls (omega arith)
-  less CondTail o = by_test (is_mark P.Question o) _ _ Falls.eats (Falls.falls (omega arith))
-  less (Operand zero) o = by_test (is_prefix_mark o) _ _ Falls.eats (Falls.falls (omega arith))
-  less (Operand (suc d)) o = Falls.falls (omega arith)
-  less (LevelTail zero) o = Falls.halts
-  less (LevelTail (suc d)) o = by_test (eqb (loose o) (suc d)) _ _ Falls.eats (Falls.falls (omega arith))
-  less PostTail o = by_test (eqb (loose o) 0) _ _ (f_post k (4 + wait k) o) (Falls.falls (omega arith))
-  less Primary None = Falls.halts
-  less Primary (Some m) = by_test (is_leaf m) _ _ Falls.eats (f_primary k 2 m)
-  less StdRest o = f_std k 2 o
-  less StdMore o = by_test (is_mark P.Scope o) _ _ Falls.eats (Falls.falls (omega arith))
-  less ArgsRest o = by_test (is_mark P.CloseParen o) _ _ Falls.eats (Falls.falls (omega arith))
-  less SeveralTail o = by_test (is_mark P.Comma o) _ _ Falls.eats (Falls.falls (omega arith))
-  less TypePart o = Falls.falls (omega arith)
-  less BasePart o = f_base k 2 o
-  less UnsignedTail o = f_unsigned o
-  less (StarTail zero) o = Falls.falls (omega arith)
-  less (StarTail (suc d)) o = by_test (is_mark P.Star o) _ _ Falls.eats (Falls.falls (omega arith))
-  less (OptWord word) o = by_test (is_word word o) _ _ Falls.eats (Falls.falls (omega arith))
-  less (OptSign p) o = by_test (is_mark p o) _ _ Falls.eats (Falls.falls (omega arith))
-  less LocalPart o = Falls.falls (omega arith)
-  less InitPart o = by_test (is_mark P.Assign o) _ _ Falls.eats (by_test (is_mark P.OpenParen o) _ _ Falls.eats (Falls.falls (omega arith)))
-  less OptExpr o = by_test (is_end o) _ _ (Falls.falls (omega arith)) (Falls.falls (omega arith))
-  less SimplePart None = Falls.halts
-  less SimplePart (Some m) = f_simple m
-  less SimpleStd o = f_simple_std k 2 o
-  less StmtPart o = f_stmt o
-  less BlockPart o = Falls.falls (omega arith)
-  less StmtsPart o = by_test (is_mark P.CloseBrace o) _ _ (Falls.falls (omega arith)) (Falls.falls (omega arith))
-  less ElseTail o = by_test (is_word W.Else o) _ _ Falls.eats (Falls.falls (omega arith))
-  less HandlerPart o = Falls.falls (omega arith)
-  less HandlersTail o = by_test (is_word W.Catch o) _ _ (Falls.falls (omega arith)) (Falls.falls (omega arith))
-  less CatchPart o = by_test (is_mark P.Ellipsis o) _ _ Falls.eats (Falls.falls (omega arith))
-  less ParamPart o = Falls.falls (omega arith)
-  less OptName o = f_name o
-  less ParamsRest o = by_test (is_mark P.CloseParen o) _ _ Falls.eats (Falls.falls (omega arith))
-  less ParamsTail o = by_test (is_mark P.Comma o) _ _ Falls.eats (Falls.falls (omega arith))
-  less SuffixPart o = Falls.falls (omega arith)
-  less SpecsPart o = f_specs (name_number o)
-  less PostRest o = f_post_rest o
-  less PostName o = by_test (is_mark P.Colon o) _ _ Falls.eats (Falls.falls (omega arith))
-  less TailPart o = by_test (is_mark P.Semicolon o) _ _ Falls.eats (Falls.falls (omega arith))
-  less MakingPart o = by_test (is_mark P.Semicolon o) _ _ Falls.eats (Falls.falls (omega arith))
-  less InitsPart o = by_test (is_mark P.Colon o) _ _ Falls.eats (Falls.falls (omega arith))
-  less MemberInitPart o = Falls.falls (omega arith)
-  less InitsTail o = by_test (is_mark P.Comma o) _ _ Falls.eats (Falls.falls (omega arith))
-  less MembersPart o = by_test (is_mark P.CloseBrace o) _ _ (Falls.falls (omega arith)) (Falls.falls (omega arith))
-  less MemberPart o = f_member o
-  less MemberRest o = f_member_rest o
-  less MemberClass o = by_test (is_mark P.OpenParen o) _ _ Falls.eats (Falls.falls (omega arith))
-  less MemberName o = by_test (is_mark P.OpenParen o) _ _ Falls.eats (Falls.falls (omega arith))
-  less VirtualRest o = by_test (is_mark P.Tilde o) _ _ Falls.eats (Falls.falls (omega arith))
-  less ItemsPart None = Falls.falls (omega arith)
-  less ItemsPart (Some m) = Falls.falls (omega arith)
-  less ItemPart o = f_item o
-  less ClassRest o = f_class k 2 o
-  less (Declaration b) o = f_declaration b o
-  less (AfterClass b) o = by_test (is_mark P.Scope o) _ _ Falls.eats (Falls.falls (omega arith))
-  less Special o = f_special k 2 o
-  less (AfterType b) o = f_type k 2 b o
-  less (AfterName b) o = by_test (is_mark P.OpenParen o) _ _ Falls.eats (f_global b o)
-  less ConstantPart o = f_constant k 2 o
+  part_falls : (x : Part) (o : Option Mark) → Falls k (wait (Read x ∷ k)) (move x o)
+  part_falls Assign o = Falls.falls (omega arith)
+  part_falls AssignTail o = by_test (eqb (loose o) 11) _ _ (assign_falls k (4 + wait k) o) (Falls.falls (omega arith))
+  part_falls Cond o = Falls.falls (omega arith)
+  part_falls CondTail o = by_test (is_mark P.Question o) _ _ Falls.eats (Falls.falls (omega arith))
+  part_falls (Operand zero) o = by_test (is_prefix_mark o) _ _ Falls.eats (Falls.falls (omega arith))
+  part_falls (Operand (suc d)) o = Falls.falls (omega arith)
+  part_falls (LevelTail zero) o = Falls.halts
+  part_falls (LevelTail (suc d)) o = by_test (eqb (loose o) (suc d)) _ _ Falls.eats (Falls.falls (omega arith))
+  part_falls PostTail o = by_test (eqb (loose o) 0) _ _ (post_falls k (4 + wait k) o) (Falls.falls (omega arith))
+  part_falls Primary None = Falls.halts
+  part_falls Primary (Some m) = by_test (is_leaf m) _ _ Falls.eats (primary_falls k 2 m)
+  part_falls StdRest o = std_falls k 2 o
+  part_falls StdMore o = by_test (is_mark P.Scope o) _ _ Falls.eats (Falls.falls (omega arith))
+  part_falls ArgsRest o = by_test (is_mark P.CloseParen o) _ _ Falls.eats (Falls.falls (omega arith))
+  part_falls SeveralTail o = by_test (is_mark P.Comma o) _ _ Falls.eats (Falls.falls (omega arith))
+  part_falls TypePart o = Falls.falls (omega arith)
+  part_falls BasePart o = base_falls k 2 o
+  part_falls UnsignedTail o = unsigned_falls o
+  part_falls (StarTail zero) o = Falls.falls (omega arith)
+  part_falls (StarTail (suc d)) o = by_test (is_mark P.Star o) _ _ Falls.eats (Falls.falls (omega arith))
+  part_falls (OptWord word) o = by_test (is_word word o) _ _ Falls.eats (Falls.falls (omega arith))
+  part_falls (OptSign p) o = by_test (is_mark p o) _ _ Falls.eats (Falls.falls (omega arith))
+  part_falls LocalPart o = Falls.falls (omega arith)
+  part_falls InitPart o = by_test (is_mark P.Assign o) _ _ Falls.eats (by_test (is_mark P.OpenParen o) _ _ Falls.eats (Falls.falls (omega arith)))
+  part_falls OptExpr o = by_test (is_end o) _ _ (Falls.falls (omega arith)) (Falls.falls (omega arith))
+  part_falls SimplePart None = Falls.halts
+  part_falls SimplePart (Some m) = simple_falls m
+  part_falls SimpleStd o = simple_std_falls k 2 o
+  part_falls StmtPart o = stmt_falls o
+  part_falls BlockPart o = Falls.falls (omega arith)
+  part_falls StmtsPart o = by_test (is_mark P.CloseBrace o) _ _ (Falls.falls (omega arith)) (Falls.falls (omega arith))
+  part_falls ElseTail o = by_test (is_word W.Else o) _ _ Falls.eats (Falls.falls (omega arith))
+  part_falls HandlerPart o = Falls.falls (omega arith)
+  part_falls HandlersTail o = by_test (is_word W.Catch o) _ _ (Falls.falls (omega arith)) (Falls.falls (omega arith))
+  part_falls CatchPart o = by_test (is_mark P.Ellipsis o) _ _ Falls.eats (Falls.falls (omega arith))
+  part_falls ParamPart o = Falls.falls (omega arith)
+  part_falls OptName o = name_falls o
+  part_falls ParamsRest o = by_test (is_mark P.CloseParen o) _ _ Falls.eats (Falls.falls (omega arith))
+  part_falls ParamsTail o = by_test (is_mark P.Comma o) _ _ Falls.eats (Falls.falls (omega arith))
+  part_falls SuffixPart o = Falls.falls (omega arith)
+  part_falls SpecsPart o = specs_falls (name_number o)
+  part_falls PostRest o = post_rest_falls o
+  part_falls PostName o = by_test (is_mark P.Colon o) _ _ Falls.eats (Falls.falls (omega arith))
+  part_falls TailPart o = by_test (is_mark P.Semicolon o) _ _ Falls.eats (Falls.falls (omega arith))
+  part_falls MakingPart o = by_test (is_mark P.Semicolon o) _ _ Falls.eats (Falls.falls (omega arith))
+  part_falls InitsPart o = by_test (is_mark P.Colon o) _ _ Falls.eats (Falls.falls (omega arith))
+  part_falls MemberInitPart o = Falls.falls (omega arith)
+  part_falls InitsTail o = by_test (is_mark P.Comma o) _ _ Falls.eats (Falls.falls (omega arith))
+  part_falls MembersPart o = by_test (is_mark P.CloseBrace o) _ _ (Falls.falls (omega arith)) (Falls.falls (omega arith))
+  part_falls MemberPart o = member_falls o
+  part_falls MemberRest o = member_rest_falls o
+  part_falls MemberClass o = by_test (is_mark P.OpenParen o) _ _ Falls.eats (Falls.falls (omega arith))
+  part_falls MemberName o = by_test (is_mark P.OpenParen o) _ _ Falls.eats (Falls.falls (omega arith))
+  part_falls VirtualRest o = by_test (is_mark P.Tilde o) _ _ Falls.eats (Falls.falls (omega arith))
+  part_falls ItemsPart None = Falls.falls (omega arith)
+  part_falls ItemsPart (Some m) = Falls.falls (omega arith)
+  part_falls ItemPart o = item_falls o
+  part_falls ClassRest o = class_falls k 2 o
+  part_falls (Declaration b) o = declaration_falls b o
+  part_falls (AfterClass b) o = by_test (is_mark P.Scope o) _ _ Falls.eats (Falls.falls (omega arith))
+  part_falls Special o = special_falls k 2 o
+  part_falls (AfterType b) o = type_falls k 2 b o
+  part_falls (AfterName b) o = by_test (is_mark P.OpenParen o) _ _ Falls.eats (global_falls b o)
+  part_falls ConstantPart o = constant_falls k 2 o
 
 -- ---- a step without a token waits for less
 
@@ -256,7 +254,7 @@ goes_less [] j o is = absurd (cc)
 goes_less (Expect t ∷ k) j None is = absurd (cc)
 goes_less (Expect t ∷ k) j (Some m) is = absurd (no_token_taken (fits t m) k j is)
 goes_less (Make a ∷ k) j o is = let same : k ≡ j = cc in subst (λ l. wait l < 1 + wait k) same (omega arith)
-goes_less (Read x ∷ k) j o is = of_move (move x o) k j o (wait (Read x ∷ k)) (less k x o) is
+goes_less (Read x ∷ k) j o is = of_move (move x o) k j o (wait (Read x ∷ k)) (part_falls k x o) is
 
 -- ---- where the stack settles
 

@@ -1,4 +1,4 @@
-//! That each unit that is told has an answer: laws of its list, its first fault and its tree.
+//! That a unit has an answer whatever its files hold: laws of lists, of their faults and of the units that are built.
 #![tactic(auto)]
 
 pub mod laws;

@@ -1,0 +1,5 @@
+use Rattle.cx_judged.proofs.Units as law
+use Rattle.cx_judged.proofs.laws.built_or_outside.Goals as goal
+
+pub returns : goal.returns
+returns c = law.built_or_outside
