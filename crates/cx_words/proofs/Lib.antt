@@ -1,0 +1,5 @@
+pub mod Apart
+pub mod Numbers
+pub mod Taken
+pub mod Examples
+pub mod PlainForm

@@ -1,0 +1,5 @@
+pub mod Command
+pub mod Value
+pub mod Verbs
+pub mod Words
+pub mod Laws
