@@ -14,7 +14,7 @@ use Rattle.cx_code.specs.declared.violation.Semantic.{Semantic}
 use Rattle.cx_words.specs.declared.verbs.Verb.TheVariants.{Exec}
 use Rattle.cx_words.specs.Command.{command}
 use Rattle.cx_words.specs.Value.{is_name, most_steps, number_in, semantic_in}
-use Rattle.cx_words.specs.Words.{Given, Request, given_in, given_of, is_asked, request_by, request_of, request_with, semantic_of, steps_of, unless_refused}
+use Rattle.cx_words.specs.Words.{Given, Request, given_in, given_of, is_asked, request_by, request_with, semantic_of, steps_of, unless_refused}
 use Rattle.cx_words.specs.Laws.{PlainWordsAreRead, is_plain, plain_words}
 
 -- ---- a word that begins with another byte than `-`
