@@ -1,8 +1,9 @@
 -- What the whole call promises, by what was decided and by how the closing line was written.
-use Rattle.std.proofs.Common.{◌≡◌, ℕ, zero, suc, List, [], ◌++◌, Option, None, inl, inr, refl, sym, ap, subst, ◌∙◌}
+use Rattle.std.proofs.Common.{◌≡◌, ◌⊎◌, ℕ, zero, suc, List, [], ◌++◌, Option, None, inl, inr, refl, sym, ap, subst, ◌∙◌}
 use Rattle.std.specs.Prelude.{◌≤◌, ◌≢◌, take}
 use Rattle.std.specs.Io.KnownBytes.{Appends}
 use Rattle.cx_outside.specs.Stream.{TakesFront}
+use Rattle.cx_outside.specs.declared.limit.Limit.TheVariants as limits
 use Rattle.cx_outside.specs.Told.{Appends-then, Rose-earlier, Rose-later}
 use Rattle.cx_code.specs.declared.run.Run.{Run}
 use Rattle.cx_code.specs.declared.run.Cause.{Cause}
@@ -21,11 +22,12 @@ use Rattle.cx_tool.specs.declared.exec.Decided.{Decided}
 use Rattle.cx_tool.specs.Words.{OfRequest}
 use Rattle.cx_tool.specs.Seen.{FilesSeen, Seen, Held, TakesThen}
 use Rattle.cx_tool.specs.Closing.{closing_text, status_of}
-use Rattle.cx_tool.specs.Report.{not_started, run_answer, Comes, IsEarly, HasClosingLine, IsClosed, IsRunTo, IsEndedRun, StopHasCause, IsRan, HasBegun}
-use Rattle.cx_tool.specs.Causes.{HasCause}
+use Rattle.cx_tool.specs.Report.{not_started, Comes, IsEarly, HasClosingLine, IsClosed, IsRunTo, IsEndedRun, StopHasCause, HasPut, IsRan, HasBegun}
+use Rattle.cx_tool.specs.Causes.{HasCause, GetsRun}
 use Rattle.cx_tool.specs.Exec.{Decides}
 use Rattle.cx_tool.specs.Promises.{Promises}
 use Rattle.cx_tool.proofs.Closed.{same_answer, last_line, still_comes}
+use Rattle.cx_tool.proofs.Answered.{Judged, answered}
 use Rattle.cx_tool.proofs.Unput.{OneAssembly, never_put}
 
 -- the error output over both parts: till the closing line, and behind it
@@ -120,7 +122,7 @@ pub record Closes (decided now : Answer) (run : Run) (err : Object) : Type 0 whe
   pub line : HasClosingLine now → Appends err.old err.new (closing_text now run)
   pub later : err.before ≤ err.after
 
-module _ (one : OneAssembly) (words : List (List ℕ)) (files : FilesSeen) (input out first last : Object) (decided : Decided) (report : Report)
+module _ (one : OneAssembly) (judged : Judged) (words : List (List ℕ)) (files : FilesSeen) (input out first last : Object) (decided : Decided) (report : Report)
     (joined : first.new ≡ last.old) (counted : first.after ≡ last.before) (rising : first.before ≤ first.after)
     (decides : Decides words (record { files = files; input = object None None 0 0; out = out; err = first }) decided)
     (closes : Closes decided.answer report.answer decided.run last) (same_run : report.run ≡ decided.run)
@@ -150,17 +152,28 @@ module _ (one : OneAssembly) (words : List (List ℕ)) (files : FilesSeen) (inpu
   held_before : Held (whole first last) → Held first
   held_before held rose = held (failed_before rose)
 
-  begun_now : report.run ≢ not_started → OfRequest words (λ asked. HasBegun asked report.run now (closing_text (run_answer report.run.ending) report.run))
+  begun_now : report.run ≢ not_started → OfRequest words (λ asked. HasBegun asked decided.answer report.run now (closing_text decided.answer report.run))
   begun_now begun =
       let b = decides.begun (λ e. begun (same_run ∙ e)) in
-      let is = decides.by_the_run (λ e. begun (same_run ∙ e)) in
-      let took = subst (λ (a : Answer). TakesFront last.old last.new (closing_text a decided.run)) is closes.took in
       rw same_run (
         b.0,
         b.1,
         b.2,
-        record { image = b.3.image; source = b.3.source; put = b.3.put; runs = run_closed decided.run.ending b.3.image b.0.steps decided.run out first last (closing_text (run_answer decided.run.ending) decided.run) joined failed_before b.3.runs took },
+        record {
+          image = b.3.image;
+          source = b.3.source;
+          runs = run_closed decided.run.ending b.3.image b.0.steps decided.run out first last (closing_text decided.answer decided.run) joined failed_before b.3.runs closes.took;
+          answered = b.3.answered;
+          put = b.3.put;
+        },
       )
+
+  gets : Held (whole first last) → GetsRun words before decided.answer → GetsRun words now report.answer
+  gets held (inl ran) = inl (comes answers.Ran held ran)
+  gets held (inr long) = inr (long.0, long.1, comes (answers.TooMany limits.JournalText long.0) held long.2)
+
+  put_now : (files.new ≡ files.old) ⊎ OfRequest words (λ asked. HasPut asked report.run files)
+  put_now = rw same_run decides.put
 
   line_of : HasClosingLine report.answer → decided.answer ≡ report.answer
   line_of h = same_answer decided.answer report.answer (Failed last) closes.closed h
@@ -178,6 +191,7 @@ module _ (one : OneAssembly) (words : List (List ℕ)) (files : FilesSeen) (inpu
           image = r.3.image;
           source = r.3.source;
           put = r.3.put;
+          short = r.3.short;
           runs = r.3.runs;
           output = r.3.output;
           lines = last_line first.old first.new last.new (written r.3.image decided.run.journal) (closing_text answers.Ran decided.run) r.3.lines (subst (λ (b : Option (List ℕ)). Appends b last.new (closing_text answers.Ran decided.run)) (sym joined) line);
@@ -190,24 +204,29 @@ module _ (one : OneAssembly) (words : List (List ℕ)) (files : FilesSeen) (inpu
   pub promises : Promises words now report
   promises = record {
     cause = closed_cause words now decided.answer report.answer closed_now decided_cause;
-    usage_comes = λ none held. comes answers.Usage held (inl (decides.usage_comes none));
-    long_name_comes = λ count has held. comes _ held (inl (decides.long_name_comes count has));
+    usage_comes = λ none held. comes answers.Usage held (decides.usage_comes none);
+    long_name_comes = λ count has held. comes _ held (decides.long_name_comes count has);
     fault_comes = λ unit folder fault names told its kept held. comes _ held (decides.fault_comes unit folder fault names told its kept);
     list_fault_comes = λ unit folder list fault names told its is kept held. comes _ held (decides.list_fault_comes unit folder list fault names told its is kept);
     unbuilt_comes = λ unit folder list names told its fine outside kept held. comes _ held (decides.unbuilt_comes unit folder list names told its fine outside kept);
-    ran_comes = λ unit folder names told faultless kept written held. comes _ held (decides.ran_comes unit folder names told faultless kept written (held_before held));
+    ran_comes = λ unit folder names told faultless kept written held. gets held (decides.ran_comes unit folder names told faultless kept written (held_before held));
+    answered = λ unit folder names told kept written held.
+        answered one judged words now folder unit report.answer
+        (λ fault its. comes _ held (decides.fault_comes unit folder fault names told its kept))
+        (λ list fault its is. comes _ held (decides.list_fault_comes unit folder list fault names told its is kept))
+        (λ list its fine outside. comes _ held (decides.unbuilt_comes unit folder list names told its fine outside kept))
+        (λ faultless. gets held (decides.ran_comes unit folder names told faultless kept written (held_before held)));
     changes = decides.changes;
-    may_not_put = λ may_not. never_put one words files decides.put may_not;
+    may_not_put = λ may_not. never_put one words decided.run files decides.put may_not;
     no_run = λ idle none_failed. decides.no_run (sym same_run ∙ idle) none_failed;
     early = λ early. decides.early (subst IsEarly (sym (early_same early)) early);
-    put = decides.put;
+    put = put_now;
     ran = ran_now;
     begun = begun_now;
     output_unchanged = λ none. silent (ap (λ (r : Run). written_out r.journal) (sym same_run) ∙ none);
     input_unread = unread;
     decided = decided.answer;
     decided_for_cause = decided_cause;
-    decided_by_the_run = λ begun. decides.by_the_run (λ e. begun (same_run ∙ e)) ∙ ap (λ (r : Run). run_answer r.ending) (sym same_run);
     closed = closed_now;
     closing_line = λ has.
         let same = line_of has in

@@ -9,6 +9,7 @@ use Rattle.cx_faults.specs.Faults.{IsListFault}
 use Rattle.cx_faults.proofs.Firsts.{no_fault}
 use Rattle.cx_front.specs.Front.{IsOutside}
 use Rattle.cx_code.specs.declared.image.Image.{Image}
+use Rattle.cx_code.specs.declared.run.Run.{Run}
 use Rattle.cx_tool.specs.Words.{Request, request_of, long_name, NamesUnit, OfRequest}
 use Rattle.cx_tool.specs.Seen.{FilesSeen}
 use Rattle.cx_tool.specs.Report.{IsOfFile, HasPut}
@@ -30,11 +31,11 @@ the_unit : (words : List (List ℕ)) (asked : Request) (unit : List ℕ) → req
 the_unit words asked unit some names = sym (ap (λ (a : Request). a.unit) (same_request words asked names.0 some names.1) ∙ names.3)
 
 -- the image of a unit is put only where the unit has no fault and is built
-refuted : OneAssembly → (words : List (List ℕ)) (files : FilesSeen) (asked : Request) → request_of words ≡ Some asked → long_name asked.image asked.unit ≡ None → (image : Image) → IsOfFile files.old asked.unit asked.semantic image → MayNotPut words files.old → ⊥
+refuted : OneAssembly → (words : List (List ℕ)) (files : FilesSeen) (asked : Request) → request_of words ≡ Some asked → long_name asked ≡ None → (image : Image) → IsOfFile files.old asked.unit asked.semantic image → MayNotPut words files.old → ⊥
 refuted one words files asked some short image source (MayNotPut.no_request none) = let e : None ≡ Some asked = sym none ∙ some in cc
 refuted one words files asked some short image source (MayNotPut.long_name count has) =
     let same = same_request words has.0 asked has.1 some in
-    let its : long_name asked.image asked.unit ≡ Some count = subst (λ (a : Request). long_name a.image a.unit ≡ Some count) same has.2 in
+    let its : long_name asked ≡ Some count = subst (λ (a : Request). long_name a ≡ Some count) same has.2 in
     let e : None ≡ Some count = sym short ∙ its in cc
 refuted one words files asked some short image source (MayNotPut.fault folder unit fault told names fault_is) =
     let e = the_unit words asked unit some names in
@@ -48,6 +49,6 @@ refuted one words files asked some short image source (MayNotPut.outside folder 
     let same = one.list folder asked.unit list source.list (subst (λ (u : List ℕ). IsListOf folder u list) e its) (listed files.old folder asked.unit source.list told source.listed) in
     no_outside source.list source.compiled.unit source.compiled.spelled source.few (subst IsOutside same outside)
 
-pub never_put : OneAssembly → (words : List (List ℕ)) (files : FilesSeen) → (files.new ≡ files.old) ⊎ OfRequest words (λ asked. HasPut asked files) → MayNotPut words files.old → files.new ≡ files.old
-never_put one words files put may_not =
+pub never_put : OneAssembly → (words : List (List ℕ)) (run : Run) (files : FilesSeen) → (files.new ≡ files.old) ⊎ OfRequest words (λ asked. HasPut asked run files) → MayNotPut words files.old → files.new ≡ files.old
+never_put one words run files put may_not =
     elim put [ inl same ↦ same | inr has ↦ absurd (refuted one words files has.0 has.1 has.2 has.3.image has.3.source may_not) ]

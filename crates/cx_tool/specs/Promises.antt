@@ -1,7 +1,7 @@
 -- This defines what the program's one public call promises, each promise with one sentence; it is this project's own.
 use Rattle.std.specs.Prelude.{◌≡◌, ◌≢◌, ◌⊎◌, ℕ, List, [], ◌++◌, Some, None}
 use Rattle.std.specs.Io.KnownBytes.{Appends}
-use Rattle.cx_outside.specs.Folder.{Folder, BothTold, ChangesOnly}
+use Rattle.cx_outside.specs.Folder.{Folder, BothTold}
 use Rattle.cx_outside.specs.Stream.{TakesFront}
 use Rattle.cx_outside.specs.declared.limit.Limit.TheVariants as limits
 use Rattle.cx_machine.specs.Outcome.{Failed}
@@ -20,17 +20,17 @@ use Rattle.cx_tool.specs.Words.{Request, request_of, NamesUnit, OfRequest, HasLo
 use Rattle.cx_tool.specs.Faults.{fault_answer, list_fault_answer}
 use Rattle.cx_tool.specs.Closing.{closing_text, status_of}
 use Rattle.cx_tool.specs.Seen.{Seen, PutFailed, FilesHeld, Held}
-use Rattle.cx_tool.specs.Report.{not_started, Comes, IsEarly, HasClosingLine, IsClosed, run_answer, HasPut, IsRan, HasBegun}
-use Rattle.cx_tool.specs.Causes.{HasCause, IsWithoutFault, MayNotPut}
+use Rattle.cx_tool.specs.Report.{not_started, Comes, IsEarly, HasClosingLine, IsClosed, ChangesAsked, HasPut, IsRan, HasBegun}
+use Rattle.cx_tool.specs.Causes.{HasCause, GetsRun, IsAnswered, IsWithoutFault, MayNotPut}
 
 -- what a call with these words, which saw this of the outside, promises of its report
 pub record Promises (words : List (List ℕ)) (seen : Seen) (report : Report) : Type 0 where
   -- ---- the answer
   -- Each answer comes only for its cause.
   pub cause : HasCause words seen report.answer
-  -- Where the words aren't in the one form that there is, Usage is answered, or want of memory, while no call fails.
+  -- Where the words ask for nothing that is built, Usage is answered, or want of memory, while no call fails.
   pub usage_comes : request_of words ≡ None → Held seen.err → Comes report.answer answers.Usage
-  -- Where they are in that form and one of the two names is too long, TooMany is answered with the length of the first such
+  -- Where they ask for something that is built and one of the names is too long, TooMany is answered with the length of the first such
   -- name, or want of memory, while no call fails.
   pub long_name_comes : (count : ℕ) → HasLongName words count → Held seen.err → Comes report.answer (answers.TooMany limits.Name count)
   -- Where the files tell a first fault of the unit's files, lines and tokens, and no call fails, its answer is given, or
@@ -44,39 +44,41 @@ pub record Promises (words : List (List ℕ)) (seen : Seen) (report : Report) : 
   -- Where they tell a list without a fault that isn't built, and no call fails, Unbuilt is answered, or want of memory.
   pub unbuilt_comes : (unit : List ℕ) (folder : Folder) (list : Assembled) → NamesUnit words unit → seen.files.old ≡ Some folder → IsListOf folder unit list → IsFaultless list → IsOutside list → FilesHeld seen.files → Held seen.err
       → Comes report.answer (answers.Unbuilt unit)
-  -- Where the files tell a unit without a fault that is built, and no call fails, its program runs, or memory is wanted.
-  pub ran_comes : (unit : List ℕ) (folder : Folder) → NamesUnit words unit → seen.files.old ≡ Some folder → IsWithoutFault folder unit → FilesHeld seen.files → Held seen.out → Held seen.err → Comes report.answer answers.Ran
+  -- Where the files tell a unit without a fault that is built, and no call fails, its program runs, or the text of the
+  -- journal that is asked for is too long, or memory is wanted.
+  pub ran_comes : (unit : List ℕ) (folder : Folder) → NamesUnit words unit → seen.files.old ≡ Some folder → IsWithoutFault folder unit → FilesHeld seen.files → Held seen.out → Held seen.err → GetsRun words seen report.answer
+  -- Each unit that the files tell gets one of these four answers, or want of memory, while no call fails.
+  pub answered : (unit : List ℕ) (folder : Folder) → NamesUnit words unit → seen.files.old ≡ Some folder → FilesHeld seen.files → Held seen.out → Held seen.err → IsAnswered words seen folder unit report.answer
   -- ---- the files
-  -- No file but the image's changes.
-  pub changes : (asked : Request) → request_of words ≡ Some asked → BothTold seen.files.old seen.files.new (ChangesOnly asked.image)
+  -- No file but the image's and the journal's changes.
+  pub changes : (asked : Request) → request_of words ≡ Some asked → BothTold seen.files.old seen.files.new (ChangesAsked asked)
   -- Where the words or the files tell that none may be written, no file changes, whatever is answered.
   pub may_not_put : MayNotPut words seen.files.old → seen.files.new ≡ seen.files.old
   -- Where no run began and no put failed, no file changes, whatever is answered: so after a read that failed.
   pub no_run : report.run ≡ not_started → (PutFailed seen.files → ⊥) → seen.files.new ≡ seen.files.old
   -- Where an answer tells that its cause came before a put, no file changes.
   pub early : IsEarly report.answer → seen.files.new ≡ seen.files.old
-  -- What is put is the image of the unit, and nothing else.
-  pub put : (seen.files.new ≡ seen.files.old) ⊎ OfRequest words (λ asked. HasPut asked seen.files)
+  -- What is put is the image of the unit, and then the journal of its run where one is asked for, and nothing else.
+  pub put : (seen.files.new ≡ seen.files.old) ⊎ OfRequest words (λ asked. HasPut asked report.run seen.files)
   -- ---- the run
+  -- What was decided before the closing line was written came for its cause too.
+  pub decided : Answer
+  pub decided_for_cause : HasCause words seen decided
   -- After Ran the files hold under the image's name the bytes of a valid image, each run of which is one that the program
-  -- of the unit's assembled list permits under the semantic that is asked for, no other name changed, the run is the
-  -- machine's run of that image within the limit that is asked for, the output took the bytes of its events Out, and the
+  -- of the unit's assembled list permits under the semantic that is asked for, and under the journal's, where one is asked
+  -- for, the text of the run's journal; no other name changed, the run is the machine's run of that image within the limit that is asked for, the output took the bytes of its events Out, and the
   -- error output took the default handler's lines and then the closing line.
   pub ran : report.answer ≡ answers.Ran → OfRequest words (λ asked. IsRan asked report.run seen (closing_text answers.Ran report.run))
   -- Where a run began, whatever failed later, it is that of the image that was put, or it stopped for a cause that is told,
-  -- after steps that were begun and no more than the limit; and it is said what the output and the error output took.
-  pub begun : report.run ≢ not_started → OfRequest words (λ asked. HasBegun asked report.run seen (closing_text (run_answer report.run.ending) report.run))
+  -- after steps that were begun and no more than the limit; and it is said what was decided by it, what the files hold by
+  -- that, and what the output and the error output took.
+  pub begun : report.run ≢ not_started → OfRequest words (λ asked. HasBegun asked decided report.run seen (closing_text decided report.run))
   -- Where the run has no event Out, and so where none began, the output is unchanged.
   pub output_unchanged : written_out report.run.journal ≡ [] → seen.out.new ≡ seen.out.old
   -- Nothing of the input is taken.
   pub input_unread : seen.input.new ≡ seen.input.old
   -- ---- the closing line
-  -- What was decided before the closing line was written came for its cause too;
-  pub decided : Answer
-  pub decided_for_cause : HasCause words seen decided
-  -- where a run began, it is what the run came to;
-  pub decided_by_the_run : report.run ≢ not_started → decided ≡ run_answer report.run.ending
-  -- and the answer is that, unless the write of the closing line wanted memory or failed.
+  -- The answer is what was decided, unless the write of the closing line wanted memory or failed.
   pub closed : IsClosed decided report.answer (Failed seen.err)
   -- The closing line stands last on the error output, where the answer has one and its write didn't fail.
   pub closing_line : HasClosingLine report.answer → (before : List ℕ) × Appends seen.err.old seen.err.new (before ++ closing_text report.answer report.run)

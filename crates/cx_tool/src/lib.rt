@@ -4,6 +4,7 @@
 mod answer;
 mod closing;
 mod exec;
+mod journal;
 mod top;
 mod unit_run;
 mod words;
