@@ -1,3 +1,4 @@
+mod journals;
 mod operators;
 mod statements;
 mod words;

@@ -2,15 +2,18 @@ use super::*;
 
 #[test]
 fn other_words_are_refused(rt: HostRuntime) -> Result<(), Fail> {
-    let rows: [&[&str]; 12] = [
+    let rows: [&[&str]; 15] = [
         &[],
         &["exec"],
         &["exec", "a.cpp"],
         &["exec", "-o", "a.img"],
-        &["exec", "-o", "a.img", "a.cpp", "b.cpp"],
-        &["exec", "a.cpp", "-o", "a.img"],
+        &["exec", "-o", "a.img", "a.cpp", "a.cpp"],
+        &["exec", "-o", "a.img", "-o", "a.img", "a.cpp"],
         &["run", "-o", "a.img", "a.cpp"],
+        &["start", "-o", "a.img", "a.cpp"],
         &["exec", "-p", "a.img", "a.cpp"],
+        &["exec", "--help", "-o", "a.img", "a.cpp"],
+        &["--version"],
         &["exec", "-o", "", "a.cpp"],
         &["exec", "-o", "a.img", ""],
         &["exec", "-o", "a img", "a.cpp"],
@@ -19,7 +22,19 @@ fn other_words_are_refused(rt: HostRuntime) -> Result<(), Fail> {
     are_refused(&rt, rt.alloc(), &rows)
 }
 
-/// Rows of words that aren't in the one form that there is.
+#[test]
+fn words_for_what_is_not_built_are_refused(rt: HostRuntime) -> Result<(), Fail> {
+    let rows: [&[&str]; 5] = [
+        &["exec", "-o", "a.img", "a.cpp", "b.cpp"],
+        &["exec", "-o", "a.img", "--plan", "a.plan", "a.cpp"],
+        &["compile", "-o", "a.o", "a.cpp"],
+        &["explain", "a.cpp"],
+        &["make", "-o", "a.img", "2"],
+    ];
+    are_refused(&rt, rt.alloc(), &rows)
+}
+
+/// Rows of words that ask for nothing that is built.
 fn are_refused(rt: &impl Abort, alloc: Global, rows: &[&[&str]]) -> Result<(), Fail> {
     for words in rows {
         let case = Case {
@@ -33,51 +48,65 @@ fn are_refused(rt: &impl Abort, alloc: Global, rows: &[&[&str]]) -> Result<(), F
 
 #[test]
 fn other_options_are_refused(rt: HostRuntime) -> Result<(), Fail> {
-    let rows: [&[&str]; 12] = [
-        &["exec", "--steps", "5", "-o", "a.img", "a.cpp"],
-        &["exec", "-o", "a.img", "a.cpp", "--steps", "5"],
+    let rows: [&[&str]; 10] = [
         &["exec", "-o", "a.img", "--steps", "a.cpp"],
         &["exec", "-o", "a.img", "--semantic", "a.cpp"],
         &["exec", "-o", "a.img", "--steps", "5"],
-        &["exec", "-o", "a.img", "--steps=5", "a.cpp"],
-        &["exec", "-o", "a.img", "--semantic=observe", "a.cpp"],
         &["exec", "-o", "a.img", "--limit", "5", "a.cpp"],
         &["exec", "-o", "-a.img", "a.cpp"],
         &["exec", "-o", "a.img", "-a.cpp"],
         &["exec", "-o", "a.img", "--semantic", "Enforce", "a.cpp"],
         &["exec", "-o", "a.img", "--semantic", "", "a.cpp"],
+        &["exec", "-o", "a.img", "--journal", "", "a.cpp"],
+        &["exec", "-o", "a.img", "a.cpp", "--journal"],
     ];
     are_refused(&rt, rt.alloc(), &rows)
 }
 
 #[test]
-fn options_stand_once_and_in_their_order(rt: HostRuntime) -> Result<(), Fail> {
+fn options_stand_once(rt: HostRuntime) -> Result<(), Fail> {
     let rows: [&[&str]; 3] = [
+        &["exec", "-o", "a.img", "--steps", "5", "--steps=5", "a.cpp"],
         &[
             "exec",
             "-o",
             "a.img",
-            "--semantic",
-            "observe",
-            "--steps",
-            "5",
+            "--semantic=observe",
             "a.cpp",
+            "--semantic=observe",
         ],
-        &[
-            "exec", "-o", "a.img", "--steps", "5", "--steps", "5", "a.cpp",
-        ],
-        &[
-            "exec",
-            "-o",
-            "a.img",
-            "--semantic",
-            "observe",
-            "--semantic",
-            "observe",
-            "a.cpp",
-        ],
+        &["exec", "-o", "a.img", "--journal=j", "--journal=k", "a.cpp"],
     ];
     are_refused(&rt, rt.alloc(), &rows)
+}
+
+#[test]
+fn options_stand_in_any_place(rt: HostRuntime) -> Result<(), Fail> {
+    let rows: [&[&str]; 7] = [
+        &["exec", "a.cpp", "-o", "a.img"],
+        &["exec", "--steps", "50", "-o", "a.img", "a.cpp"],
+        &["exec", "-o", "a.img", "a.cpp", "--steps", "50"],
+        &[
+            "exec",
+            "-o",
+            "a.img",
+            "--semantic",
+            "observe",
+            "--steps=50",
+            "a.cpp",
+        ],
+        &["exec", "-o=a.img", "--semantic=observe", "a.cpp"],
+        &["exec", "-o", "a.img", "--", "a.cpp"],
+        &["--steps=50", "exec", "-o", "a.img", "a.cpp"],
+    ];
+    for words in rows {
+        let case = Case {
+            words,
+            ..Case::of_unit(b"int main(){ return 0; }", 0, b"cx: returned 0\n")
+        };
+        check(&rt, rt.alloc(), case)?;
+    }
+    Ok(())
 }
 
 #[test]
@@ -163,10 +192,7 @@ fn long_text(alloc: Global, length: usize) -> Result<String, Fail> {
 
 /// The words that name this image and this unit.
 fn naming(alloc: Global, image: &str, unit: &str) -> Result<Vec<String>, Fail> {
-    let mut words = words_of(alloc, &["exec", "-o"])?;
-    words.push(String::from_str(alloc, image)?)?;
-    words.push(String::from_str(alloc, unit)?)?;
-    Ok(words)
+    words_of(alloc, &["exec", "-o", image, unit])
 }
 
 #[test]
@@ -195,4 +221,23 @@ fn a_longer_name_is_too_long(rt: HostRuntime) -> Result<(), Fail> {
     let unit = naming(alloc, "a.img", name.as_str())?;
     check_words(&rt, alloc, &unit, case)?;
     check(&rt, alloc, case)
+}
+
+#[test]
+fn the_first_name_that_is_too_long_is_told(rt: HostRuntime) -> Result<(), Fail> {
+    let alloc = rt.alloc();
+    let (journal, unit) = (long_text(alloc, 1026)?, long_text(alloc, 1027)?);
+    let words = words_of(
+        alloc,
+        &[
+            "exec",
+            "-o",
+            "a.img",
+            unit.as_str(),
+            "--journal",
+            journal.as_str(),
+        ],
+    )?;
+    let case = Case::of_unit(b"", 69, b"cx: too many: name 1026\n");
+    check_words(&rt, alloc, &words, case)
 }
