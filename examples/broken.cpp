@@ -1,0 +1,3 @@
+int main() {
+    contract_assert(1 < );
+}

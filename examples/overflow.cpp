@@ -1,0 +1,6 @@
+int main() {
+    int n = 1;
+    while (true) {
+        n = n * 2;
+    }
+}
