@@ -1,0 +1,47 @@
+pub mod Same
+pub mod Worlds
+pub mod Comes
+pub mod Stores
+pub mod States
+pub mod Ranges
+pub mod Values
+pub mod Operators
+pub mod Updates
+pub mod Lives
+pub mod Leaving
+pub mod Objects
+pub mod Called
+pub mod Operations
+pub mod Choices
+pub mod Initials
+pub mod Makings
+pub mod Trees
+pub mod Checks
+pub mod Slots
+pub mod Returns
+pub mod Thrown
+pub mod Bodies
+pub mod Fields
+pub mod Functions
+pub mod Implicit
+pub mod Active
+pub mod Depth
+pub mod Typed
+pub mod Whole
+pub mod RenamedTypes
+pub mod RenamedOperators
+pub mod Renamed
+pub mod RenamedStatements
+pub mod RenamedBodies
+pub mod LinkedUnits
+pub mod LinkedFunctions
+pub mod LinkedNames
+pub mod LinkedGlobals
+pub mod LinkedAlike
+pub mod LinkedTables
+pub mod LinkedClasses
+pub mod LinkedDefaults
+pub mod Linked
+mod Writing
+mod Examples
+mod LinkedExamples
